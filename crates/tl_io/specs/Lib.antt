@@ -1,0 +1,5 @@
+pub mod Calls
+pub mod Counts
+pub mod Sink
+pub mod Source
+pub mod Supply
