@@ -1,0 +1,9 @@
+pub mod Places
+pub mod Numbers
+pub mod HexDigits
+pub mod Items
+pub mod Quotes
+pub mod Digests
+pub mod Components
+pub mod Paths
+pub mod SignedNumbers

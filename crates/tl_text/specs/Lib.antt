@@ -1,0 +1,9 @@
+pub mod Digest
+pub mod File
+pub mod HexDigit
+pub mod Number
+pub mod PathText
+pub mod Place
+pub mod Quoted
+pub mod Refusal
+pub mod Signed
