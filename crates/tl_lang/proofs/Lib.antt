@@ -1,0 +1,10 @@
+pub mod AtForms
+pub mod CheckedLaws
+pub mod FuelLaws
+pub mod KindLaws
+pub mod Levels
+pub mod LimitLaws
+pub mod MeanLaws
+pub mod NumberLaws
+pub mod SortLaws
+pub mod Trees

@@ -1,0 +1,16 @@
+pub mod Checked
+pub mod Computing
+pub mod Conf
+pub mod Examples
+pub mod Fuel
+pub mod Job
+pub mod Kinds
+pub mod Limits
+pub mod Lists
+pub mod Mean
+pub mod Meaning
+pub mod Names
+pub mod Numbers
+pub mod Texts
+pub mod Tree
+pub mod Value
