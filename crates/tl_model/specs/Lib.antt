@@ -1,0 +1,14 @@
+pub mod Past
+pub mod Tables
+pub mod Namespace
+pub mod Replies
+pub mod History
+pub mod Values
+pub mod Actors
+pub mod Residency
+pub mod Plan
+pub mod Eviction
+pub mod Checkpoints
+pub mod Needs
+pub mod Rules
+pub mod Journal
