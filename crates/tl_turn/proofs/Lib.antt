@@ -1,0 +1,4 @@
+pub mod Logs
+pub mod Rows
+pub mod Keeps
+pub mod Turns

@@ -1,0 +1,4 @@
+pub mod Log
+pub mod Views
+pub mod Plays
+pub mod Law
