@@ -1,0 +1,145 @@
+-- What a run of a script leaves, by its status.
+use Rattle.std.specs.Prelude.{ℕ, ◌≡◌, ◌+◌, ◌≤◌, ◌⊎◌, String, List, [], ◌∷◌, ◌++◌, length, map, string_bytes, codes, decimal, Option, IfSome}
+use Rattle.std.specs.Global.{Global}
+use Rattle.std.specs.Io.KnownBytes.{Appends}
+use Rattle.tl_io.specs.Counts.{Rises}
+use Rattle.tl_model.specs.declared.header.Header.{Header}
+use Rattle.tl_run.specs.declared.script.Op.{Op}
+use Rattle.tl_run.specs.declared.script.BadLine.{BadLine}
+use Rattle.tl_run.specs.declared.script.BadLine.TheVariants as bad
+use Rattle.tl_run.specs.declared.status.Status.{Status}
+use Rattle.tl_run.specs.declared.status.Status.TheVariants.{Done, BadWords, BadScript, ReadFault, WriteFault, NoMemory, TooLong}
+use Rattle.tl_run.specs.declared.alone.Stop.{Stop}
+use Rattle.tl_run.specs.declared.alone.Stop.TheVariants as stop
+use Rattle.tl_run.specs.Status.{code_of}
+use Rattle.tl_run.specs.Lines.{lines_of}
+use Rattle.tl_run.specs.Script.{IsScript, IsRefused}
+use Rattle.tl_run.specs.Streams.{RisesBy, ReadsAll, HasMore, WritesFront}
+use Rattle.tl_run.specs.Transcript.{transcript}
+
+-- what is known of a source: the bytes left, where told, how many were given, and its faults
+pub record Supply : Type 0 where
+  pub left : Option (List ℕ)
+  pub given : ℕ
+  pub faults : ℕ
+
+-- what is known of a sink: the bytes held, where told, and its faults
+pub record Held : Type 0 where
+  pub bytes : Option (List ℕ)
+  pub faults : ℕ
+
+-- the greatest length of an input
+abbrev pub input_limit : ℕ
+input_limit = 16777216
+
+-- these bytes are the whole input, and were read to the end
+pub record IsInput (before after : Supply) (bytes : List ℕ) : Type 0 where
+  pub all : ReadsAll before.left after.left bytes
+  pub count : RisesBy before.given after.given (length bytes)
+  pub short : length bytes ≤ input_limit
+
+-- the number of a kind of refusal
+abbrev pub kind_number : BadLine → ℕ
+kind_number bad.Header = 1
+kind_number bad.Command = 3
+
+abbrev pub refusal_text : ℕ → BadLine → List ℕ
+refusal_text line kind = codes "script line " ++ (decimal line ++ (codes " kind " ++ (decimal (kind_number kind) ++ codes "\n")))
+
+-- the input spells the script, and the text is its transcript
+pub record Plays (before after : Supply) (text : List ℕ) : Type 0 where
+  pub bytes : List ℕ
+  pub header : Header
+  pub ops : List Op
+  pub input : IsInput before after bytes
+  pub script : IsScript (lines_of bytes) header ops
+  pub printed : text ≡ transcript ops
+
+-- the input spells no script, and the text names its first refused line
+pub record Refuses (before after : Supply) (text : List ℕ) : Type 0 where
+  pub bytes : List ℕ
+  pub line : ℕ
+  pub kind : BadLine
+  pub input : IsInput before after bytes
+  pub refused : IsRefused (lines_of bytes) line kind
+  pub printed : text ≡ refusal_text line kind
+
+-- the source failed
+pub record FailsToRead (before after : Supply) (text : List ℕ) : Type 0 where
+  pub faults : Rises before.faults after.faults
+  pub printed : text ≡ codes "read fault\n"
+
+-- the input is too long
+pub record ReadsTooMuch (before after : Supply) (text : List ℕ) : Type 0 where
+  pub more : HasMore input_limit before.left
+  pub count : RisesBy before.given after.given (input_limit + 1)
+  pub printed : text ≡ codes "input too long\n"
+
+-- a run may answer with this status and this text
+abbrev pub Answers : Supply → Supply → Status → List ℕ → Type 0
+Answers before after Done text = Plays before after text
+Answers before after BadScript text = Refuses before after text
+Answers before after ReadFault text = FailsToRead before after text
+Answers before after TooLong text = ReadsTooMuch before after text
+Answers before after BadWords text = ⊥
+Answers before after WriteFault text = ⊥
+Answers before after NoMemory text = text ≡ []
+
+-- the text was written whole
+abbrev pub Wrote : Held → Held → List ℕ → Type 0
+Wrote sink sink' text = Appends sink.bytes sink'.bytes text
+
+-- a front of the text was written
+abbrev pub WroteFront : Held → Held → List ℕ → Type 0
+WroteFront sink sink' text = WritesFront sink.bytes sink'.bytes text
+
+-- a front of what some answer would have written
+pub record WroteFrontOfAnswer (before after : Supply) (sink sink' : Held) : Type 0 where
+  pub status : Status
+  pub text : List ℕ
+  pub answer : Answers before after status text
+  pub front : WroteFront sink sink' text
+
+-- what some answer of this status would write was written whole
+pub record WroteAnswer (before after : Supply) (sink sink' : Held) (status : Status) : Type 0 where
+  pub text : List ℕ
+  pub answer : Answers before after status text
+  pub whole : Wrote sink sink' text
+
+-- what a run leaves with this status
+abbrev pub Ends : Supply → Supply → Held → Held → Status → Type 0
+Ends before after sink sink' WriteFault = Rises sink.faults sink'.faults × WroteFrontOfAnswer before after sink sink'
+Ends before after sink sink' NoMemory = WroteFrontOfAnswer before after sink sink'
+Ends before after sink sink' status = WroteAnswer before after sink sink' status
+
+-- the status is one of a run, and the run left what it says
+pub record EndsWith (before after : Supply) (sink sink' : Held) (code : ℕ) : Type 0 where
+  pub status : Status
+  pub code_is : code ≡ code_of status
+  pub ends : Ends before after sink sink' status
+
+-- no such script stands in the input, where told
+abbrev pub IsNoScript : Supply → Type 0
+IsNoScript before = IfSome before.left (λ bytes. (header : Header) (ops : List Op) → IsScript (lines_of bytes) header ops → ⊥)
+
+-- why there is no transcript
+abbrev pub StopsFor : Supply → Supply → Stop → Type 0
+StopsFor before after (stop.BadScript line kind) = (bytes : List ℕ) × IsInput before after bytes × IsRefused (lines_of bytes) line kind
+StopsFor before after stop.ReadFault = Rises before.faults after.faults
+StopsFor before after stop.TooLong = HasMore input_limit before.left × RisesBy before.given after.given (input_limit + 1)
+StopsFor before after stop.NoMemory = Unit {0}
+
+-- how the writing of a text for a status ends: whole, or short for a fault of the sink or want of memory
+abbrev pub Finishes : Held → Held → Status → List ℕ → Status → Type 0
+Finishes sink sink' status text ended =
+    ((ended ≡ status) × Wrote sink sink' text)
+    ⊎ (((ended ≡ WriteFault) × Rises sink.faults sink'.faults × WroteFront sink sink' text)
+    ⊎ ((ended ≡ NoMemory) × WroteFront sink sink' text))
+
+-- the words that are known
+abbrev pub IsAlone : List (String Global) → Type 0
+IsAlone words = map string_bytes words ≡ codes "alone" ∷ []
+
+-- words that are not known are refused, unless the sink fails or memory runs out
+abbrev pub RefusesWords : Held → Held → ℕ → Type 0
+RefusesWords sink sink' code = (status : Status) × (code ≡ code_of status) × Finishes sink sink' BadWords (codes "words\n") status

@@ -1,0 +1,145 @@
+//! Running a script on one thread.
+
+ghost use Rattle.std.specs.Prelude.{◌≡◌, ◌++◌, ◌≢◌, List, ℕ, false, vec_len, IfOk, IfSome, MatchResult, OnOk};
+ghost use Rattle.tl_model.specs.declared.header.Header.{Header};
+ghost use Rattle.tl_run.specs.declared.script.Op.{Op};
+ghost use Rattle.tl_run.specs.Lines.{lines_of};
+ghost use Rattle.tl_run.specs.Script.{IsScript};
+ghost use Rattle.tl_run.specs.Alone.{Supply, Held, Plays, Ends, EndsWith, StopsFor, Finishes, refusal_text, kind_number};
+
+use crate::parse::parse;
+use crate::play::play;
+use crate::print::print_number;
+use crate::reading::{ReadError, read_all};
+use crate::script::{BadLine, ScriptError};
+use crate::status::Status;
+use crate::writing::write_all;
+use std::alloc::{AllocError, Global};
+use tl_io::{Depot, Sink, SinkError, Source, SureDepot};
+
+/// Why there is no transcript.
+#[derive(Clone, Copy, Debug, PartialEq, Eq)]
+pub enum Stop {
+    /// The first line that is refused.
+    BadScript { line: u64, kind: BadLine },
+    /// The source met a fault.
+    ReadFault,
+    /// The input is longer than it may be.
+    TooLong,
+    /// Memory ran out.
+    NoMemory,
+}
+
+/// Reads a script, does its lines in order and writes their transcript; or writes why it did not.
+/// Answers the exit status. Nothing of `depots` is used.
+pub fn alone_call<I: Source, O: Sink, D: Depot>(
+    alloc: Global,
+    journal: bool,
+    input: &mut I,
+    output: &mut O,
+    depots: &mut Vec<D>,
+) -> u8
+    requires no_journal { journal ≡ false }
+    requires handles { vec_len depots.old ≡ 16 }
+
+    ensures ends { EndsWith
+        (record { left = I.left input.old; given = I.given input.old; faults = I.faults input.old })
+        (record { left = I.left input.new; given = I.given input.new; faults = I.faults input.new })
+        (record { bytes = O.held output.old; faults = O.faults output.old })
+        (record { bytes = O.held output.new; faults = O.faults output.new })
+        result }
+
+    // A script is never refused.
+    ensures accepted { IfSome (I.left input.old) (λ bytes.
+        (header : Header) (ops : List Op) → IsScript (lines_of bytes) header ops → result ≢ 3) }
+    ensures depots { depots.new ≡ depots.old }
+{
+    run(alloc, input, output).code()
+}
+
+// Does a run, and answers how it ended.
+fn run<I: Source, O: Sink>(alloc: Global, input: &mut I, output: &mut O) -> Status
+    ensures { Ends
+        (record { left = I.left input.old; given = I.given input.old; faults = I.faults input.old })
+        (record { left = I.left input.new; given = I.given input.new; faults = I.faults input.new })
+        (record { bytes = O.held output.old; faults = O.faults output.old })
+        (record { bytes = O.held output.new; faults = O.faults output.new })
+        result }
+{
+    match transcript_of(alloc, input) {
+        Ok(text) => finish(output, Status::Done, &text),
+        Err(Stop::BadScript { line, kind }) => {
+            let Ok(text) = refusal(alloc, line, kind) else {
+                return Status::NoMemory;
+            };
+            finish(output, Status::BadScript, &text)
+        }
+        Err(Stop::ReadFault) => finish(output, Status::ReadFault, b"read fault\n"),
+        Err(Stop::TooLong) => finish(output, Status::TooLong, b"input too long\n"),
+        Err(Stop::NoMemory) => Status::NoMemory,
+    }
+}
+
+// The transcript of the script that the input spells.
+fn transcript_of<I: Source>(alloc: Global, input: &mut I) -> Result<Vec<u8>, Stop>
+    ensures { MatchResult result
+        (λ text. Plays
+        (record { left = I.left input.old; given = I.given input.old; faults = I.faults input.old })
+        (record { left = I.left input.new; given = I.given input.new; faults = I.faults input.new })
+        text.items)
+        (StopsFor
+        (record { left = I.left input.old; given = I.given input.old; faults = I.faults input.old })
+        (record { left = I.left input.new; given = I.given input.new; faults = I.faults input.new })) }
+{
+    let bytes = match read_all(alloc, input) {
+        Ok(bytes) => bytes,
+        Err(ReadError::Failed) => return Err(Stop::ReadFault),
+        Err(ReadError::TooLong) => return Err(Stop::TooLong),
+        Err(ReadError::NoMemory) => return Err(Stop::NoMemory),
+    };
+    let script = match parse(alloc, &bytes) {
+        Ok(script) => script,
+        Err(ScriptError::Bad { line, kind }) => return Err(Stop::BadScript { line, kind }),
+        Err(ScriptError::NoMemory) => return Err(Stop::NoMemory),
+    };
+    let Ok(text) = play(alloc, &mut SureDepot::new(), &script.ops) else {
+        return Err(Stop::NoMemory);
+    };
+    Ok(text)
+}
+
+// The text that names a refused line.
+fn refusal(alloc: Global, line: u64, kind: BadLine) -> Result<Vec<u8>, AllocError>
+    ensures { IfOk result (λ text. text.items ≡ refusal_text line kind) }
+{
+    let mut text = Vec::from_slice(alloc, b"script line ")?;
+    print_number(&mut text, line)?;
+    text.extend_from_slice(b" kind ")?;
+    print_number(&mut text, kind_number(kind))?;
+    text.extend_from_slice(b"\n")?;
+    Ok(text)
+}
+
+// The number of a kind of refusal.
+fn kind_number(kind: BadLine) -> u64
+    ensures { result ≡ kind_number kind }
+{
+    match kind {
+        BadLine::Header => 1,
+        BadLine::Command => 3,
+    }
+}
+
+/// Writes the text of a status, and answers the status, or why not all was written.
+pub(crate) fn finish<O: Sink>(output: &mut O, status: Status, text: &[u8]) -> Status
+    ensures { Finishes
+        (record { bytes = O.held output.old; faults = O.faults output.old })
+        (record { bytes = O.held output.new; faults = O.faults output.new })
+        status text.now result }
+{
+    match write_all(output, text) {
+        Ok(()) => status,
+        Err(SinkError::Failed) => Status::WriteFault,
+        Err(SinkError::NoMemory) => Status::NoMemory,
+    }
+}

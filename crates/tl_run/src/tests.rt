@@ -1,0 +1,177 @@
+use super::*;
+use std::alloc::Global;
+use std::test::Fail;
+use tl_io::{MemSink, MemSource, SureDepot};
+
+const HEADER: &str = "tachyon 1 workers 1 capacity 100 hot 3\n";
+
+/// What a run is given, and what it must answer and write.
+struct Case {
+    name: &'static str,
+    input: &'static str,
+    status: u8,
+    output: &'static str,
+}
+
+const CASES: [Case; 16] = [
+    Case {
+        name: "a put and a read",
+        input: "tachyon 1 workers 1 capacity 100 hot 3\n0 put /a \"hi\"\n0 cat 0 /a",
+        status: 0,
+        output: "0 0 made 0\n1 0 file 0.0 2 \"hi\"\n",
+    },
+    Case {
+        name: "the first put stays",
+        input: "tachyon 1 workers 1 capacity 100 hot 3\n0 put /a \"one\"\n0 put /a \"two\"\n0 cat 0 /a\n0 cat 7 /b\n0 put /b \"\"\n0 cat 0 /b\n",
+        status: 0,
+        output: "0 0 made 0\n1 0 exists\n2 0 file 0.0 3 \"one\"\n3 0 nosuch\n4 0 made 1\n5 0 file 1.0 0 \"\"\n",
+    },
+    Case {
+        name: "a header alone",
+        input: "tachyon 1 workers 1 capacity 268435456 hot 4294967295",
+        status: 0,
+        output: "",
+    },
+    Case {
+        name: "nothing",
+        input: "",
+        status: 3,
+        output: "script line 1 kind 1\n",
+    },
+    Case {
+        name: "an empty line",
+        input: "tachyon 1 workers 1 capacity 100 hot 3\n\n",
+        status: 3,
+        output: "script line 2 kind 3\n",
+    },
+    Case {
+        name: "an unknown command",
+        input: "tachyon 1 workers 1 capacity 100 hot 3\n0 put /a \"hi\"\n0 mkdir /d\n0 nor this\n",
+        status: 3,
+        output: "script line 3 kind 3\n",
+    },
+    Case {
+        name: "no workers",
+        input: "tachyon 1 workers 0 capacity 100 hot 3\n",
+        status: 3,
+        output: "script line 1 kind 1\n",
+    },
+    Case {
+        name: "a capacity over its limit",
+        input: "tachyon 1 workers 1 capacity 268435457 hot 3\n",
+        status: 3,
+        output: "script line 1 kind 1\n",
+    },
+    Case {
+        name: "a number with a zero before it",
+        input: "tachyon 1 workers 1 capacity 100 hot 03\n",
+        status: 3,
+        output: "script line 1 kind 1\n",
+    },
+    Case {
+        name: "a priority over its limit",
+        input: "tachyon 1 workers 1 capacity 100 hot 3\n0 cat 8 /a\n",
+        status: 3,
+        output: "script line 2 kind 3\n",
+    },
+    Case {
+        name: "another client",
+        input: "tachyon 1 workers 1 capacity 100 hot 3\n1 cat 0 /a\n",
+        status: 3,
+        output: "script line 2 kind 3\n",
+    },
+    Case {
+        name: "a path of two components",
+        input: "tachyon 1 workers 1 capacity 100 hot 3\n0 cat 0 /a/b\n",
+        status: 3,
+        output: "script line 2 kind 3\n",
+    },
+    Case {
+        name: "a component that is a dot",
+        input: "tachyon 1 workers 1 capacity 100 hot 3\n0 put /. \"\"\n",
+        status: 3,
+        output: "script line 2 kind 3\n",
+    },
+    Case {
+        name: "a text with an escape",
+        input: "tachyon 1 workers 1 capacity 100 hot 3\n0 put /a \"\\n\"\n",
+        status: 3,
+        output: "script line 2 kind 3\n",
+    },
+    Case {
+        name: "a text that doesn't end",
+        input: "tachyon 1 workers 1 capacity 100 hot 3\n0 put /a \"\n",
+        status: 3,
+        output: "script line 2 kind 3\n",
+    },
+    Case {
+        name: "a space too many",
+        input: "tachyon 1 workers 1 capacity 100 hot 3\n0 put /a \"hi\" \n",
+        status: 3,
+        output: "script line 2 kind 3\n",
+    },
+];
+
+// The status of a run of these words over a source and a sink whose listed calls fail, and what was written.
+fn run(
+    alloc: Global,
+    word: &str,
+    input: Vec<u8>,
+    read_fails: &[u32],
+    write_fails: &[u32],
+) -> Result<(u8, MemSink), Fail> {
+    let words = vec![in alloc; String::from_str(alloc, word)?]?;
+    let mut source = MemSource::new(input, read_fails.to_vec(alloc)?);
+    let mut sink = MemSink::new(alloc, write_fails.to_vec(alloc)?);
+    let mut depots = vec![in alloc; SureDepot::new(); 16]?;
+    let status = tachyon(alloc, &words, &mut source, &mut sink, &mut depots);
+    Ok((status, sink))
+}
+
+#[test]
+fn scripts(rt: HostRuntime) -> Result<(), Fail> {
+    let alloc = rt.alloc();
+    for case in &CASES {
+        let input = case.input.as_bytes().to_vec(alloc)?;
+        let (status, sink) = run(alloc, "alone", input, &[], &[])?;
+        assert_eq!(rt; status, case.status, "{}", case.name);
+        assert_eq!(rt; sink.bytes(), case.output.as_bytes(), "{}", case.name);
+    }
+    Ok(())
+}
+
+#[test]
+fn faults(rt: HostRuntime) -> Result<(), Fail> {
+    let alloc = rt.alloc();
+    let script = CASES[0].input.as_bytes();
+
+    let (status, sink) = run(alloc, "alone", script.to_vec(alloc)?, &[2], &[])?;
+    assert_eq!(rt; status, 4);
+    assert_eq!(rt; sink.bytes(), b"read fault\n".as_slice());
+
+    // A sink takes 16 bytes at a time.
+    let (status, sink) = run(alloc, "alone", script.to_vec(alloc)?, &[], &[2])?;
+    assert_eq!(rt; status, 5);
+    assert_eq!(rt; sink.bytes(), b"0 0 made 0\n1 0 f".as_slice());
+
+    let (status, sink) = run(alloc, "lone", script.to_vec(alloc)?, &[], &[])?;
+    assert_eq!(rt; status, 2);
+    assert_eq!(rt; sink.bytes(), b"words\n".as_slice());
+    Ok(())
+}
+
+#[test]
+fn input_limit(rt: HostRuntime) -> Result<(), Fail> {
+    let alloc = rt.alloc();
+    for (len, status, output) in [
+        (INPUT_LIMIT, 3, "script line 2 kind 3\n"),
+        (INPUT_LIMIT + 1, 9, "input too long\n"),
+    ] {
+        let mut input = HEADER.as_bytes().to_vec(alloc)?;
+        input.resize(len, b'x')?;
+        let (got, sink) = run(alloc, "alone", input, &[], &[])?;
+        assert_eq!(rt; got, status, "at {len}");
+        assert_eq!(rt; sink.bytes(), output.as_bytes(), "at {len}");
+    }
+    Ok(())
+}
