@@ -1,0 +1,13 @@
+pub mod Words
+pub mod Rerun
+pub mod Computing
+pub mod ChainLost
+pub mod SavedAncestor
+pub mod DeletedInput
+pub mod SavedEnd
+pub mod Eviction
+pub mod Pins
+pub mod TwoOutputs
+pub mod InheritedPriority
+pub mod Refused
+pub mod LogCount

@@ -1,0 +1,20 @@
+//! Worked journals: facts about the definitions, found by computing them.
+#![tactic(auto)]
+
+mod chain_lost;
+mod deleted_input;
+mod eviction;
+mod inherited_priority;
+mod log_count;
+mod pins;
+mod refused_calls;
+mod refused_collects;
+mod refused_frees;
+mod refused_jobs;
+mod refused_owing;
+mod refused_reads;
+mod refused_saves;
+mod rerun;
+mod saved_ancestor;
+mod saved_end;
+mod two_outputs;

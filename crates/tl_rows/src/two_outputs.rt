@@ -1,0 +1,27 @@
+//! A job that runs again brings only those of its outputs that are nowhere.
+
+ghost use Rattle.std.specs.Prelude.{◌≡◌, None, Some, drop, true};
+ghost use Rattle.tl_model.specs.Plan.{next};
+ghost use Rattle.tl_model.specs.Residency.{place};
+ghost use Rattle.tl_model.specs.Rules.{ToFree, is_lawful, is_legal, lawful_judge, owed};
+ghost use Rattle.tl_rows.specs.TwoOutputs.{two_outputs, two_outputs_past};
+ghost use Rattle.tl_rows.specs.Words.{file_of, hashed, header, id, itself, worker};
+
+/// Where each of the two files is, from event to event.
+#[tactic(auto, unfolding(crate::specs::Computing::computing))]
+pub fn two_outputs()
+    ensures lawful { is_lawful (header 2 100 9) (two_outputs itself) ≡ true }
+    ensures legal { is_legal (header 2 100 9) (two_outputs hashed) ≡ true }
+    ensures made { place (drop 13 two_outputs_past) (file_of 0 0) ≡ Some (worker 0) }
+    ensures other_made { place (drop 13 two_outputs_past) (file_of 0 1) ≡ Some (worker 0) }
+    ensures freed { place (drop 11 two_outputs_past) (file_of 0 0) ≡ None }
+    ensures other_not_freed { place (drop 11 two_outputs_past) (file_of 0 1) ≡ Some (worker 0) }
+    ensures made_again { place (drop 8 two_outputs_past) (file_of 0 0) ≡ Some (worker 1) }
+    ensures other_not_again { place (drop 8 two_outputs_past) (file_of 0 1) ≡ Some (worker 0) }
+    ensures not_lost { place (drop 6 two_outputs_past) (file_of 0 0) ≡ Some (worker 1) }
+    ensures other_lost { place (drop 6 two_outputs_past) (file_of 0 1) ≡ None }
+    ensures at_end { place two_outputs_past (file_of 0 0) ≡ Some (worker 1) }
+    ensures other_at_end { place two_outputs_past (file_of 0 1) ≡ Some (worker 1) }
+    ensures next_for_other { next (drop 3 two_outputs_past) ≡ Some (id 0) }
+    ensures owes_free { owed lawful_judge (drop 12 (two_outputs itself)) ≡ ToFree (record { 0 = 0 }) (file_of 0 0) }
+{}
