@@ -1,0 +1,7 @@
+//! Laws of the definitions of lineage, over all journals. Each is the contract of a function with an
+//! empty body.
+#![tactic(auto)]
+
+mod tables;
+
+pub use tables::{needs_are_theirs_alone, prios_are_theirs_alone, tasks_are_theirs_alone};
