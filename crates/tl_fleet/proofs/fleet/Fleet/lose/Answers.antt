@@ -1,0 +1,12 @@
+use Rattle.std.proofs.Common.{rules, ◌≡◌, ◌∙◌, ◌<◌, length, ap, subst, sym}
+use Rattle.tl_fleet.proofs.Changes.{whole}
+use Rattle.tl_fleet.specs.Workers.{IsFleet, IsOnce, changed_at, emptied}
+use Rattle.tl_fleet.proofs.Once.{once_lost}
+use Rattle.tl_fleet.proofs.fleet.Fleet.lose.Goals as goal
+
+pub invariant_of-self : goal.invariant_of-self
+invariant_of-self c =
+    let now : c.deref_mut.result.now ≡ c.self.inside.workers.items = search rules in
+    let few : length c.lose_at.new.workers < 256 = search rules in
+    let same = whole c.self.inside.workers.len c.lose_at.new.workers c.self.inside.workers.items (search rules) (search rules) in
+    subst IsFleet (sym same) (record { few = few; once = subst IsOnce (sym (c.lose_at.ensures ∙ ap (changed_at c.args.w.0 emptied) now)) (once_lost c.args.w.0 c.self.inside.workers.items c.self.invariant.once) })

@@ -1,0 +1,13 @@
+use Rattle.std.proofs.Common.{rules, ◌≡◌, ◌∙◌, ◌<◌, length, ap, subst, sym}
+use Rattle.tl_fleet.proofs.Changes.{whole}
+use Rattle.tl_store.specs.Contents.{without}
+use Rattle.tl_fleet.specs.Workers.{IsFleet, IsOnce, changed_at, with_blocks}
+use Rattle.tl_fleet.proofs.Once.{once_dropped}
+use Rattle.tl_fleet.proofs.fleet.Fleet.settle_one.Goals as goal
+
+pub invariant_of-self : goal.invariant_of-self
+invariant_of-self g c =
+    let now : c.deref_mut.result.now ≡ c.self.inside.workers.items = search rules in
+    let few : length c.remove_at.new.workers < 256 = search rules in
+    let same = whole c.self.inside.workers.len c.remove_at.new.workers c.self.inside.workers.items (search rules) (search rules) in
+    subst IsFleet (sym same) (record { few = few; once = subst IsOnce (sym (c.remove_at.ensures ∙ ap (changed_at c.in_ok-w.w.0 (with_blocks (without c.in_ok-w.f))) now)) (once_dropped c.in_ok-w.w.0 c.in_ok-w.f c.self.inside.workers.items c.self.invariant.once) })

@@ -1,0 +1,222 @@
+ghost use Rattle.std.specs.Prelude.{◌≡◌, ◌+◌, ◌<◌, ◌≤◌, ◌^◌, ◌-◌, ◌==◌, false, Some, length, slice_get, IfSome, IfOk, IfErr, OnOk, OnErr};
+ghost use Rattle.std.specs.Option.{option_map};
+ghost use Rattle.tl_fleet.specs.Workers.{IsOnce, new_workers, is_resident, found, found_block, installed, all_touched, all_without, lost, first_to_drop, dropped, incarnation_of, changed_at, with_blocks, put_front, emptied, to_drop};
+ghost use Rattle.tl_store.specs.Contents.{without};
+
+use crate::worker::Worker;
+use std::alloc::Global;
+use std::marker::Model;
+use tl_store::{Excepted, Store};
+use tl_types::{Block, FileId, NoMemory, Shared, WorkerId};
+
+/// The memory of all workers. Contracts see the list of the workers, each with its incarnation and
+/// the blocks in its memory, the most recently used first.
+#[derive(Drop)]
+pub struct Fleet {
+    workers: Vec<Worker>,
+}
+
+impl Model for Fleet {
+    ghost use Rattle.tl_fleet.specs.Workers.{Workers, IsFleet};
+
+    ghost Value = { Workers };
+
+    ghost view = { λ fleet. fleet.workers.items };
+
+    ghost invariant = { λ fleet. IsFleet fleet.workers.items };
+}
+
+impl Fleet {
+    /// Empty workers of incarnation 0, each of which may have `capacity` bytes.
+    pub fn new(alloc: Global, workers: u8, capacity: u64) -> Result<Fleet, NoMemory>
+        ensures { IfOk result (λ fleet. fleet ≡ new_workers workers capacity) }
+    {
+        let mut fleet = Vec::new(alloc);
+        for _ in 0..workers {
+            fleet.push(Worker {
+                store: Store::new(alloc, capacity)?,
+                incarnation: 0,
+            })?;
+        }
+        Ok(Fleet { workers: fleet })
+    }
+
+    /// The number of workers.
+    pub fn len(&self) -> usize
+        ensures workers { result ≡ length self.now }
+        ensures bound { result < 256 }
+    {
+        self.workers.len()
+    }
+
+    /// Whether there are no workers.
+    pub fn is_empty(&self) -> bool
+        ensures { result ≡ (length self.now == 0) }
+    {
+        self.workers.is_empty()
+    }
+
+    /// Puts a block of a file that is on no worker in front at `w`. `Err` is want of memory; it hands
+    /// the block back, and nothing changed.
+    pub fn install(&mut self, w: WorkerId, block: Shared<Block>) -> Result<(), Shared<Block>>
+        requires worker { w.0 < length self.old }
+        requires absent { is_resident block.file self.old ≡ false }
+        ensures ok { OnOk result (self.new ≡ installed w block self.old) }
+        ensures err { OnErr result (self.new ≡ self.old) }
+        ensures back { IfErr result (λ back. back ≡ block) }
+    {
+        install_at(&mut self.workers, w.0 as usize, block)
+    }
+
+    /// The worker that has a file, and the block; `None` where no worker has it. The order stays.
+    pub fn find(&self, f: FileId) -> Option<(WorkerId, &Shared<Block>)>
+        ensures found { option_map found_block result ≡ found f self.now }
+        ensures once { IsOnce self.now }
+    {
+        find_in(&self.workers, f)
+    }
+
+    /// Whether a worker has a file.
+    pub fn is_resident(&self, f: FileId) -> bool
+        ensures { result ≡ is_resident f self.now }
+    {
+        resident_in(&self.workers, f)
+    }
+
+    /// Makes a file the most recently used of its worker. A file on no worker changes nothing.
+    pub fn touch(&mut self, f: FileId)
+        ensures { self.new ≡ all_touched f self.old }
+    {
+        touch_all(&mut self.workers, f);
+    }
+
+    /// Takes a file out of its worker. A file on no worker changes nothing.
+    pub fn free(&mut self, f: FileId)
+        ensures { self.new ≡ all_without f self.old }
+    {
+        free_all(&mut self.workers, f);
+    }
+
+    /// Empties a worker and raises its incarnation by one.
+    pub fn lose(&mut self, w: WorkerId)
+        requires worker { w.0 < length self.old }
+        requires incarnation { IfSome (slice_get self.old w.0) (λ worker. worker.incarnation < 2 ^ 64 - 1) }
+        ensures { self.new ≡ lost w self.old }
+    {
+        lose_at(&mut self.workers, w.0 as usize);
+    }
+
+    /// How often a worker was lost.
+    pub fn incarnation(&self, w: WorkerId) -> u64
+        requires worker { w.0 < length self.now }
+        ensures { option_map incarnation_of (slice_get self.now w.0) ≡ Some result }
+    {
+        self.workers[w.0 as usize].incarnation
+    }
+
+    /// Drops the least recently used file that is not excepted from the least worker that is over
+    /// its capacity and has such a file. `None` where there is no such worker.
+    pub fn settle_one<X: Excepted>(&mut self, x: &X) -> Option<(WorkerId, FileId)>
+        ensures first { result ≡ first_to_drop (X.excepted x.now) self.old }
+        ensures dropped { self.new ≡ dropped result self.old }
+    {
+        let (w, f) = find_drop(&self.workers, x)?;
+        remove_at(&mut self.workers, w.0 as usize, f);
+        Some((w, f))
+    }
+}
+
+// Puts a block in front at a worker.
+fn install_at(workers: &mut [Worker], w: usize, block: Shared<Block>) -> Result<(), Shared<Block>>
+    requires worker { w < length workers.old }
+    requires absent { is_resident block.file workers.old ≡ false }
+    ensures ok { OnOk result (workers.new ≡ changed_at w (with_blocks (put_front block)) workers.old) }
+    ensures err { OnErr result (workers.new ≡ workers.old) }
+    ensures back { IfErr result (λ back. back ≡ block) }
+{
+    let worker = &mut workers[w];
+    worker.store.put(block)
+}
+
+// Empties a worker and raises its incarnation by one.
+fn lose_at(workers: &mut [Worker], w: usize)
+    requires worker { w < length workers.old }
+    requires incarnation { IfSome (slice_get workers.old w) (λ worker. worker.incarnation < 2 ^ 64 - 1) }
+    ensures { workers.new ≡ changed_at w emptied workers.old }
+{
+    let worker = &mut workers[w];
+    worker.store.clear();
+    worker.incarnation += 1;
+}
+
+// Takes a file out of a worker.
+fn remove_at(workers: &mut [Worker], w: usize, f: FileId)
+    requires worker { w < length workers.old }
+    ensures { workers.new ≡ changed_at w (with_blocks (without f)) workers.old }
+{
+    let worker = &mut workers[w];
+    worker.store.remove(f);
+}
+
+// Makes a file the most recently used of each worker that has it.
+fn touch_all(workers: &mut [Worker], f: FileId)
+    ensures { workers.new ≡ all_touched f workers.old }
+{
+    for worker in workers.iter_mut() {
+        worker.store.touch(f);
+    }
+}
+
+// Takes a file out of each worker.
+fn free_all(workers: &mut [Worker], f: FileId)
+    ensures { workers.new ≡ all_without f workers.old }
+{
+    for worker in workers.iter_mut() {
+        worker.store.remove(f);
+    }
+}
+
+// Whether a worker has a file.
+fn resident_in(workers: &[Worker], f: FileId) -> bool
+    ensures { result ≡ is_resident f workers.now }
+{
+    workers.iter().any(|worker| worker.store.contains(f))
+}
+
+// The least worker that has a file, and the block.
+fn find_in(workers: &[Worker], f: FileId) -> Option<(WorkerId, &Shared<Block>)>
+    requires few { length workers.now < 256 }
+    ensures { option_map found_block result ≡ found f workers.now }
+{
+    for (n, worker) in workers.iter().enumerate() {
+        if let Some(block) = worker.store.get(f) {
+            return Some((WorkerId(n as u8), block));
+        }
+    }
+    None
+}
+
+// The least worker that must drop a file, and the file.
+fn find_drop<X: Excepted>(workers: &[Worker], x: &X) -> Option<(WorkerId, FileId)>
+    requires few { length workers.now < 256 }
+    ensures first { result ≡ first_to_drop (X.excepted x.now) workers.now }
+    ensures within { IfSome result (λ drop. drop.0.0 < length workers.now) }
+{
+    for (n, worker) in workers.iter().enumerate() {
+        if let Some(f) = worker_drop(worker, x) {
+            return Some((WorkerId(n as u8), f));
+        }
+    }
+    None
+}
+
+// The file that a worker must drop.
+fn worker_drop<X: Excepted>(worker: &Worker, x: &X) -> Option<FileId>
+    ensures { result ≡ to_drop (X.excepted x.now) worker.now }
+{
+    if worker.store.used() > worker.store.capacity() as u128 {
+        worker.store.victim(x)
+    } else {
+        None
+    }
+}

@@ -1,0 +1,98 @@
+use crate::{Excepted, Fleet};
+use std::test::Fail;
+use tl_types::{Block, Bytes, FileId, Outcome, RecordId, Shared, WorkerId};
+
+fn file(n: u32) -> FileId {
+    FileId {
+        rec: RecordId(n),
+        out: 0,
+    }
+}
+
+// Whether a block of two bytes of a new file was installed.
+fn install(rt: &HostRuntime, fleet: &mut Fleet, w: u8, n: u32) -> Result<bool, Fail> {
+    let bytes = Bytes::new([7, 7].to_vec(rt.alloc())?).ok_or("short")?;
+    let block = Shared::new(rt.alloc(), Block::new(file(n), Outcome::Value(bytes)))?;
+    let worker = WorkerId(w);
+    if (w as usize) >= fleet.len() {
+        return Ok(false);
+    }
+    if fleet.is_resident(block.get().file()) {
+        return Ok(false);
+    }
+    Ok(fleet.install(worker, block).is_ok())
+}
+
+// The files below a number.
+struct Below(u32);
+
+impl Excepted for Below {
+    ghost use Rattle.std.specs.Prelude.{nat_lt};
+
+    ghost excepted = { λ below f. nat_lt f.rec.0 below.0 };
+
+    fn holds(&self, f: FileId) -> bool {
+        f.rec.0 < self.0
+    }
+}
+
+#[test]
+fn files_come_and_go(rt: HostRuntime) -> Result<(), Fail> {
+    let mut fleet = Fleet::new(rt.alloc(), 2, 3)?;
+    assert!(rt; !fleet.is_empty());
+    for (w, n) in [(0, 0), (1, 1), (1, 2), (0, 3)] {
+        assert!(rt; install(&rt, &mut fleet, w, n)?);
+    }
+    assert_eq!(rt; fleet.find(file(2)).map(|found| found.0), Some(WorkerId(1)));
+    assert_eq!(rt;
+        fleet.find(file(2)).map(|found| found.1.get().file()),
+        Some(file(2))
+    );
+    assert_eq!(rt; fleet.settle_one(&Below(4)), None);
+    fleet.touch(file(1));
+    assert_eq!(rt; fleet.settle_one(&Below(1)), Some((WorkerId(0), file(3))));
+    assert_eq!(rt; fleet.settle_one(&Below(0)), Some((WorkerId(1), file(2))));
+    assert_eq!(rt; fleet.settle_one(&Below(0)), None);
+    assert!(rt; fleet.find(file(2)).is_none());
+    fleet.free(file(1));
+    assert!(rt; !fleet.is_resident(file(1)));
+    Ok(())
+}
+
+#[test]
+fn many_files_on_one_worker(rt: HostRuntime) -> Result<(), Fail> {
+    let mut fleet = Fleet::new(rt.alloc(), 1, 0)?;
+    for n in 0..10_000u32 {
+        assert!(rt; install(&rt, &mut fleet, 0, n)?);
+    }
+    for n in 0..10_000u32 {
+        assert_eq!(rt; fleet.settle_one(&Below(0)), Some((WorkerId(0), file(n))));
+    }
+    assert_eq!(rt; fleet.settle_one(&Below(0)), None);
+    Ok(())
+}
+
+#[test]
+fn a_lost_worker_is_empty(rt: HostRuntime) -> Result<(), Fail> {
+    let mut fleet = Fleet::new(rt.alloc(), 1, 9)?;
+    assert!(rt; install(&rt, &mut fleet, 0, 5)?);
+    assert!(rt; lose_first(&mut fleet));
+    assert!(rt; !fleet.is_resident(file(5)));
+    Ok(())
+}
+
+// Whether the first worker was lost, once, and has the next incarnation.
+fn lose_first(fleet: &mut Fleet) -> bool {
+    if fleet.is_empty() {
+        return false;
+    }
+    let before = fleet.incarnation(WorkerId(0));
+    if before == u64::MAX {
+        return false;
+    }
+    fleet.lose(WorkerId(0));
+    if fleet.is_empty() {
+        return false;
+    }
+    fleet.incarnation(WorkerId(0)) == before + 1
+}
