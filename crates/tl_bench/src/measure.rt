@@ -1,0 +1,38 @@
+//! What the words name.
+ghost use Rattle.std.specs.Prelude.{◌<◌, ◌≤◌, IfSome};
+ghost use Rattle.tl_bench.specs.Measure.{IsRunnable};
+
+/// The most seats of one turn.
+const SEATS: u8 = 64;
+
+/// A measurement and its size.
+#[derive(Clone, Copy, Debug, PartialEq, Eq)]
+pub enum Measure {
+    /// A script of this many lines after its header.
+    Script { lines: u32 },
+    /// This many turns by each of so many seats.
+    Turns { seats: u8, turns: u32 },
+}
+
+impl Measure {
+    /// The measurement that the words name: `script LINES`, or `turns SEATS TURNS` with 1 to 64 seats.
+    pub fn of(words: &[String]) -> Option<Measure>
+        ensures { IfSome result IsRunnable }
+    {
+        match words {
+            [word, lines] if word.as_str() == "script" => {
+                let lines = lines.parse().ok()?;
+                Some(Measure::Script { lines })
+            }
+            [word, seats, turns] if word.as_str() == "turns" => {
+                let seats = seats.parse::<u8>().ok()?;
+                let turns = turns.parse().ok()?;
+                if seats == 0 || SEATS < seats {
+                    return None;
+                }
+                Some(Measure::Turns { seats, turns })
+            }
+            _ => None,
+        }
+    }
+}
