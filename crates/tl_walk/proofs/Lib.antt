@@ -1,0 +1,5 @@
+pub mod Counts
+pub mod Steps
+pub mod Grows
+pub mod Walks
+pub mod News

@@ -1,0 +1,18 @@
+use Rattle.std.proofs.Common.{arith}
+use Rattle.tl_walk.proofs.Counts.{found_kept, count_kept}
+use Rattle.tl_walk.proofs.residency.output_count.Goals as goal
+
+pub loop-event-preserved : goal.loop-event-preserved
+loop-event-preserved g c = record {
+  found =
+      found_kept c.args.events.now c.loop-event.event-index c.args.made.0 c.loop-event.count c.event-item.result
+      c.outputs_made-outputs.result c.loop-event.found c.found_after-found.result
+      c.loop-event-test.true c.event-item.is c.outputs_made-outputs.ensures c.found_after-found.ensures
+      c.loop-event.invariant.found c.loop-event.invariant.count;
+  count =
+      count_kept c.args.events.now c.loop-event.event-index c.loop-event.count c.records_added-count.result c.event-item.result
+      c.outputs_made-outputs.result
+      c.loop-event-test.true c.event-item.is c.outputs_made-outputs.ensures c.records_added-count.ensures.value
+      c.loop-event.invariant.count;
+  bound = omega (arith, c.records_added-count.ensures.bound, c.loop-event.invariant.bound);
+}

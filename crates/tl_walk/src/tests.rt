@@ -1,0 +1,55 @@
+use crate::{Accepted, inputs_refusal, names_of, records_of};
+use std::test::Fail;
+use tl_model::{Act, Command, Event, Reply};
+use tl_types::{Actor, Digest, Path, RecordId};
+
+// The path of one component.
+fn path_of(rt: &HostRuntime, part: &str) -> Result<Path, Fail> {
+    let mut parts = Vec::new(rt.alloc());
+    parts.push(part.as_bytes().to_vec(rt.alloc())?)?;
+    Ok(Path::new(parts).ok_or("a path")?)
+}
+
+// A put of `/a` and a new directory `/b`.
+fn two_calls(rt: &HostRuntime) -> Result<Vec<Event<()>>, Fail> {
+    let mut events = Vec::new(rt.alloc());
+    let put = Command::Put {
+        path: path_of(rt, "a")?,
+        len: 0,
+        digest: Digest([0; 32]),
+        ticket: (),
+    };
+    events.push(Event {
+        actor: Actor(0),
+        act: Act::Call(put, Reply::Made(RecordId(0))),
+    })?;
+    let mkdir = Command::Mkdir {
+        path: path_of(rt, "b")?,
+    };
+    events.push(Event {
+        actor: Actor(1),
+        act: Act::Call(mkdir, Reply::Fine),
+    })?;
+    Ok(events)
+}
+
+#[test]
+fn names_and_records(rt: HostRuntime) -> Result<(), Fail> {
+    let events = two_calls(&rt)?;
+    let names = names_of(rt.alloc(), &events)?;
+    assert_eq!(rt; names.len(), 3);
+    for part in names[0].path.as_slice() {
+        assert_eq!(rt; part.as_slice(), b"b".as_slice());
+    }
+    for part in names[1].path.as_slice() {
+        assert_eq!(rt; part.as_slice(), b"a".as_slice());
+    }
+    assert!(rt; names[2].path.is_empty());
+    let inputs = [path_of(&rt, "c")?];
+    let refusal = inputs_refusal(rt.alloc(), &names, &inputs)?;
+    assert!(rt; matches!(refusal, Some(Reply::NoSuch)));
+    let records = records_of(rt.alloc(), &events)?;
+    assert_eq!(rt; records.len(), 1);
+    assert!(rt; matches!(&records[0], Accepted::Put { id: RecordId(0) }));
+    Ok(())
+}
