@@ -1,4 +1,4 @@
-ghost use Rattle.std.specs.Prelude.{◌≡◌, ◌-◌, ◌<◌, ◌≤◌, ◌∷◌, ◌++◌, [], length, vec_len, vec_capacity, OnOk, OnErr};
+ghost use Rattle.std.specs.Prelude.{◌≡◌, ◌-◌, ◌<◌, ◌≤◌, ◌∷◌, ◌++◌, [], length, reverse, vec_len, vec_capacity, OnOk, OnErr};
 ghost use Rattle.std.specs.Option.{option_copied};
 ghost use Rattle.tl_model.specs.Journal.{event_at, call_count, calls_in};
 
@@ -79,6 +79,13 @@ impl<T> Journal<T> {
         ensures { result.now ≡ self.now.header }
     {
         &self.header
+    }
+
+    /// The events, the first of them first.
+    pub fn events(&self) -> &[Event<T>]
+        ensures { reverse result.now ≡ self.now.events }
+    {
+        self.events.as_slice()
     }
 
     /// The event at a place, counted from the first; `None` exactly where there is none.
