@@ -78,7 +78,7 @@ same_records TooDeep command before = refl
 same_records IntoItself command before = refl
 same_records TooMany command before = refl
 
-names_grow : {T : Type 0} (actor : Actor) (act : Act T) (past : Past) →
+pub names_grow : {T : Type 0} (actor : Actor) (act : Act T) (past : Past) →
     names_of (with_call actor (act_with {U = Unit {0}} (λ _. tt) act) (calls_of past)) ≡ names_step act (names past)
 names_grow actor (Call command reply) past = same_names reply command (names past)
 names_grow actor (Served file digest) past = refl
@@ -95,7 +95,7 @@ names_grow actor (Saved file size digest) past = refl
 names_grow actor (Unsave file) past = refl
 names_grow actor (Collect made) past = refl
 
-records_grow : {T : Type 0} (actor : Actor) (act : Act T) (past : Past) →
+pub records_grow : {T : Type 0} (actor : Actor) (act : Act T) (past : Past) →
     records_of (with_call actor (act_with {U = Unit {0}} (λ _. tt) act) (calls_of past)) ≡ records_step act (names past) (records past)
 records_grow actor (Call command reply) past = ap (λ rs. records past ++ rs) (same_records reply command (names past))
 records_grow actor (Served file digest) past = refl

@@ -1,3 +1,5 @@
 pub mod Steps
 pub mod Names
 pub mod Accepts
+pub mod Answered
+pub mod Moves

@@ -112,7 +112,7 @@ fn names_fine<T>(
 }
 
 // The output of this number, unpinned.
-fn unpinned(made: RecordId, out: usize) -> Node
+pub(crate) fn unpinned(made: RecordId, out: usize) -> Node
     ensures { node_of result ≡ file_node made out }
 {
     Node::File {
@@ -123,7 +123,11 @@ fn unpinned(made: RecordId, out: usize) -> Node
 }
 
 // The names with one more before them.
-fn with_name(names: Vec<Name>, path: Vec<Items<u8>>, node: Node) -> Result<Vec<Name>, NoMemory>
+pub(crate) fn with_name(
+    names: Vec<Name>,
+    path: Vec<Items<u8>>,
+    node: Node,
+) -> Result<Vec<Name>, NoMemory>
     ensures { IfOk result (λ found. names_in found.items ≡ (path.items, node_of node) ∷ names_in names.items) }
 {
     let mut names = names;
@@ -165,7 +169,7 @@ fn without_name(alloc: Global, names: &[Name], path: &[Items<u8>]) -> Result<Vec
 }
 
 // The same name.
-fn copy_name(alloc: Global, name: &Name) -> Result<Name, NoMemory>
+pub(crate) fn copy_name(alloc: Global, name: &Name) -> Result<Name, NoMemory>
     ensures { IfOk result (λ copy. name_of copy ≡ name_of name.now) }
 {
     Ok(Name {

@@ -1,5 +1,5 @@
 use std::marker::Model;
-use tl_types::RecordId;
+use tl_types::{FileId, RecordId};
 
 /// An output, counted from 0, of a record, where a record may have more outputs than a job has.
 #[derive(Clone, Copy, Debug)]
@@ -19,9 +19,10 @@ impl Model for Output {
 }
 
 impl Output {
-    ghost use Rattle.std.specs.Prelude.{◌≡◌};
+    ghost use Rattle.std.specs.Prelude.{◌≡◌, ◌<◌, MatchOption};
 
-    pub(crate) fn new(made: RecordId, out: usize) -> Output
+    /// The output of this number of the record.
+    pub fn new(made: RecordId, out: usize) -> Output
         ensures { result ≡ record { rec = made; out = out } }
     {
         Output { made, out }
@@ -39,5 +40,28 @@ impl Output {
         ensures { result ≡ self.now.out }
     {
         self.out
+    }
+
+    /// The same file, where its number is one of a byte; `None` exactly for a number above 255.
+    pub fn to_file(&self) -> Option<FileId>
+        ensures { MatchOption result (255 < self.now.out) (λ file. file ≡ self.now) }
+    {
+        if self.out > 255 {
+            return None;
+        }
+        Some(FileId {
+            rec: self.made,
+            out: self.out as u8,
+        })
+    }
+}
+
+impl From<FileId> for Output {
+    ghost use Rattle.std.specs.Prelude.{◌≡◌};
+
+    ghost from_gives = { λ file output. output ≡ file };
+
+    fn from(file: FileId) -> Output {
+        Output::new(file.rec, file.out as usize)
     }
 }

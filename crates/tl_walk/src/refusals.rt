@@ -14,7 +14,7 @@ use tl_model::Reply;
 use tl_types::{Items, NoMemory, Path};
 
 /// As many records as there may be.
-const RECORD_LIMIT: usize = 1_048_576;
+pub(crate) const RECORD_LIMIT: usize = 1_048_576;
 
 /// Why no name can be made at the path, if there is a reason.
 #[tactic(auto, using(crate::proofs::News::new_at))]
@@ -102,8 +102,8 @@ pub(crate) fn child_count(names: &[Name], path: &[Items<u8>]) -> usize
     count
 }
 
-// Whether the second stands one component below the first.
-fn is_child(above: &[Items<u8>], path: &[Items<u8>]) -> bool
+/// Whether the second stands one component below the first.
+pub(crate) fn is_child(above: &[Items<u8>], path: &[Items<u8>]) -> bool
     ensures { result ≡ is_child above.now path.now }
 {
     is_longer(above.len(), path.len()) && is_below(path, above)

@@ -126,7 +126,7 @@ fn is_number(made: RecordId, number: usize) -> bool
 }
 
 // How many records are added where one with these outputs is added or none.
-fn records_added(outputs: Option<usize>) -> usize
+pub(crate) fn records_added(outputs: Option<usize>) -> usize
     ensures value { result ≡ records_added outputs }
     ensures bound { result ≤ 1 }
 {
@@ -137,7 +137,7 @@ fn records_added(outputs: Option<usize>) -> usize
 }
 
 // How many files the record makes that the act adds, if it adds one.
-fn outputs_made<T>(act: &Act<T>) -> Option<usize>
+pub(crate) fn outputs_made<T>(act: &Act<T>) -> Option<usize>
     ensures { result ≡ outputs_made act.now }
 {
     match act {

@@ -1,4 +1,4 @@
-use crate::{Accepted, inputs_refusal, names_of, records_of};
+use crate::{Accepted, inputs_refusal, names_of, record_count, records_of, reply};
 use std::test::Fail;
 use tl_model::{Act, Command, Event, Reply};
 use tl_types::{Actor, Digest, Path, RecordId};
@@ -51,5 +51,42 @@ fn names_and_records(rt: HostRuntime) -> Result<(), Fail> {
     let records = records_of(rt.alloc(), &events)?;
     assert_eq!(rt; records.len(), 1);
     assert!(rt; matches!(&records[0], Accepted::Put { id: RecordId(0) }));
+    Ok(())
+}
+
+#[test]
+fn replies(rt: HostRuntime) -> Result<(), Fail> {
+    let events = two_calls(&rt)?;
+    assert_eq!(rt; record_count(&events), 1);
+    let again = Command::Mkdir {
+        path: path_of(&rt, "a")?,
+    };
+    let said = reply(rt.alloc(), &events, &again)?;
+    assert!(rt; matches!(said, Some(Reply::Exists)));
+    let put = Command::Put {
+        path: path_of(&rt, "c")?,
+        len: 0,
+        digest: Digest([0; 32]),
+        ticket: (),
+    };
+    let said = reply(rt.alloc(), &events, &put)?;
+    assert!(rt; matches!(said, Some(Reply::Made(RecordId(1)))));
+    let root = Command::List {
+        path: Path::new(Vec::new(rt.alloc())).ok_or("a path")?,
+    };
+    let Some(Reply::Listed(entries)) = reply(rt.alloc(), &events, &root)? else {
+        return Err(Fail::from("a listing"));
+    };
+    assert_eq!(rt; entries.len(), 2);
+    assert_eq!(rt; entries.as_slice()[0].name.as_slice(), b"a".as_slice());
+    assert!(rt; !entries.as_slice()[0].dir);
+    assert_eq!(rt; entries.as_slice()[1].name.as_slice(), b"b".as_slice());
+    assert!(rt; entries.as_slice()[1].dir);
+    let moved = Command::Rename {
+        from: path_of(&rt, "b")?,
+        to: path_of(&rt, "d")?,
+    };
+    let said = reply(rt.alloc(), &events, &moved)?;
+    assert!(rt; matches!(said, Some(Reply::Fine)));
     Ok(())
 }
