@@ -38,4 +38,4 @@ pub use residency::{
     output_count, place, saved_as, was_done,
 };
 pub use saved::SavedAs;
-pub use tally::record_count;
+pub use tally::{record_count, records_made};

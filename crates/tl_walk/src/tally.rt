@@ -1,7 +1,7 @@
 //! How many records there are.
 
-ghost use Rattle.std.specs.Prelude.{◌≡◌, ◌≤◌, length, reverse};
-ghost use Rattle.tl_model.specs.Past.{without_tickets};
+ghost use Rattle.std.specs.Prelude.{◌≡◌, ◌≤◌, ◌+◌, ◌∷◌, length, reverse};
+ghost use Rattle.tl_model.specs.Past.{Past, event_with, without_tickets};
 ghost use Rattle.tl_model.specs.History.{records};
 
 use crate::residency::{outputs_made, records_added};
@@ -18,4 +18,12 @@ pub fn record_count<T>(events: &[Event<T>]) -> usize
         count += records_added(outputs);
     }
     count
+}
+
+/// How many records the event adds: one for an accepted put or job.
+pub fn records_made<T>(event: &Event<T>) -> usize
+    ensures value { (past : Past) → length (records (event_with (λ _. tt) event.now ∷ past)) ≡ length (records past) + result }
+    ensures bound { result ≤ 1 }
+{
+    records_added(outputs_made(&event.act))
 }

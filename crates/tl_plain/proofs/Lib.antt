@@ -1,0 +1,6 @@
+pub mod Maps
+pub mod Prefixes
+pub mod Living
+pub mod Files
+pub mod Awaits
+pub mod Waits
