@@ -4,3 +4,4 @@ pub mod Living
 pub mod Files
 pub mod Awaits
 pub mod Waits
+pub mod Workers

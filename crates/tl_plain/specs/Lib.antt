@@ -1,3 +1,4 @@
 pub mod Seen
 pub mod Lives
 pub mod Prios
+pub mod Edges

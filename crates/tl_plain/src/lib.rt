@@ -3,6 +3,8 @@
 #![tactic(auto)]
 
 mod accepted;
+mod edge;
+mod eviction;
 mod lives;
 mod outputs;
 mod plan;
@@ -11,6 +13,8 @@ mod seen;
 mod tables;
 mod tasks;
 
+pub use edge::{edge as edge_of, next_save};
+pub use eviction::{Sizes, files_on, first_to_drop, is_settled, used, victim};
 pub use lives::Life;
 pub use outputs::files as files_of;
 pub use plan::Plan;

@@ -11,9 +11,9 @@ ghost use Rattle.tl_model.specs.Plan.{can_run, goes_before, is_missing_input, is
 ghost use Rattle.tl_walk.specs.Accepts.{record_of, records_in};
 ghost use Rattle.tl_plain.specs.Prios.{better_id, greatest_read, greatest_waiting, prio_of_read_of, waits_for_any};
 
-use crate::accepted::{has_input, id_of, inputs_of, own_prio};
+use crate::accepted::{has_input, id_of, own_prio};
 use crate::outputs::outputs_of;
-use crate::same::{same_output, same_record};
+use crate::same::same_output;
 use crate::seen::Seen;
 use crate::tables::answer_at;
 use crate::tasks::Tasks;
@@ -82,7 +82,7 @@ impl<'a, T> Plan<'a, T> {
         let records = self.tasks.seen().records();
         let mut best = None;
         for i in (0..records.len()).rev() {
-            if can_run(&self.tasks, &records[i]) {
+            if self.tasks.can_run(&records[i]) {
                 best = Some(self.better(id_of(&records[i]), best));
             }
         }
@@ -98,23 +98,6 @@ impl<'a, T> Plan<'a, T> {
             _ => earlier,
         }
     }
-}
-
-/// Whether the record is a task that isn't running, and all its inputs are available.
-pub(crate) fn can_run<T>(tasks: &Tasks<'_, T>, accepted: &Accepted) -> bool
-    ensures { result ≡ can_run tasks.now (record_of accepted.now) }
-{
-    let made = id_of(accepted);
-    tasks.is_task(made)
-        && !tasks.seen().is_running(made)
-        && all_available(tasks.seen(), inputs_of(accepted))
-}
-
-// Whether all these files are in memory or saved.
-fn all_available<T>(seen: &Seen<'_, T>, files: &[Output]) -> bool
-    ensures { result ≡ all_available seen.now files.now }
-{
-    files.iter().all(|file| seen.is_available(*file))
 }
 
 // The priority of each record, from the last to the first.

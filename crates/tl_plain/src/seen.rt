@@ -4,8 +4,9 @@ ghost use Rattle.std.specs.Prelude.{◌≡◌, IfOk, map, reverse};
 ghost use Rattle.std.specs.List.{list_any};
 ghost use Rattle.tl_model.specs.Actors.{actors, claims_record, is_being_saved, is_read, is_running, open_claim, open_read, open_save, reads_file, saves_file};
 ghost use Rattle.tl_model.specs.History.{is_file_node, is_named, is_pinned, is_pinned_node, names, records};
-ghost use Rattle.tl_model.specs.Past.{without_tickets};
-ghost use Rattle.tl_model.specs.Residency.{is_available, is_kept, was_done};
+ghost use Rattle.tl_model.specs.Past.{act_with, without_tickets};
+ghost use Rattle.tl_model.specs.Residency.{does, is_available, is_kept, was_done};
+ghost use Rattle.tl_model.specs.Checkpoints.{last_done};
 ghost use Rattle.tl_plain.specs.Lives.{life_of};
 ghost use Rattle.tl_walk.specs.Accepts.{records_in};
 ghost use Rattle.tl_walk.specs.Names.{names_in, node_of};
@@ -14,7 +15,7 @@ use crate::lives::{Life, life_of};
 use crate::same::{same_file, same_output, same_record};
 use std::alloc::Global;
 use std::marker::Model;
-use tl_model::Event;
+use tl_model::{Act, Event};
 use tl_types::{Actor, FileId, NoMemory, RecordId};
 use tl_walk::{
     Accepted, Name, Node, OpenClaim, OpenRead, Output, is_kept, names_of, open_claim, open_read,
@@ -126,6 +127,13 @@ impl<'a, T> Seen<'a, T> {
         was_done(self.events, made)
     }
 
+    /// The place of the last event that says that the record's job was done; 0 where there is none.
+    pub fn last_done(&self, made: RecordId) -> usize
+        ensures { result ≡ last_done self.now made }
+    {
+        last_done(self.events, made)
+    }
+
     /// Whether the record was accepted and not let go.
     pub fn is_kept(&self, made: RecordId) -> bool
         ensures { result ≡ is_kept self.now made }
@@ -191,6 +199,29 @@ fn open_saves<T>(alloc: Global, events: &[Event<T>]) -> Result<Vec<Option<FileId
 {
     let saves = ACTORS.iter().map(|actor| open_save(events, *actor));
     Ok(saves.collect(alloc)?)
+}
+
+// The place of the last event that says that the record's job was done.
+fn last_done<T>(events: &[Event<T>], made: RecordId) -> usize
+    ensures { result ≡ last_done (without_tickets (reverse events.now)) made }
+{
+    let mut last = 0;
+    for (at, event) in events.iter().enumerate() {
+        if does(made, &event.act) {
+            last = at;
+        }
+    }
+    last
+}
+
+// Whether the act says that the record's job was done.
+fn does<T>(made: RecordId, act: &Act<T>) -> bool
+    ensures { result ≡ does made (act_with (λ _. tt) act.now) }
+{
+    match act {
+        Act::Done(_, other) => same_record(made, *other),
+        _ => false,
+    }
 }
 
 // Whether one of the reads is of the file.

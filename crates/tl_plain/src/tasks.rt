@@ -1,21 +1,23 @@
 //! Which records are tasks, and which files are wanted.
 
-ghost use Rattle.std.specs.Prelude.{◌≡◌, ◌&&◌, not, IfOk};
+ghost use Rattle.std.specs.Prelude.{◌≡◌, ◌&&◌, filter, not, IfOk};
 ghost use Rattle.std.specs.List.{list_any, list_all, zip};
 ghost use Rattle.tl_model.specs.History.{has_input, id_of, records};
 ghost use Rattle.tl_model.specs.Actors.{is_running};
 ghost use Rattle.tl_model.specs.Residency.{all_available, is_available};
-ghost use Rattle.tl_model.specs.Plan.{can_run, is_awaited, is_task, is_wanted, lacks, task_among, tasks};
+ghost use Rattle.tl_model.specs.Plan.{can_run, has_id, is_awaited, is_ready, is_task, is_wanted, lacks, task_among, tasks};
 ghost use Rattle.tl_model.specs.Eviction.{may_go};
 ghost use Rattle.tl_walk.specs.Accepts.{record_of, records_in};
 
 use crate::accepted::{has_input, id_of, inputs_of, is_job};
 use crate::outputs::outputs_of;
+use crate::same::same_record;
 use crate::seen::Seen;
 use crate::tables::answer_at;
 use std::alloc::Global;
 use std::marker::Model;
-use tl_types::{NoMemory, RecordId};
+use tl_model::Facts;
+use tl_types::{FileId, NoMemory, RecordId};
 use tl_walk::{Accepted, Output};
 
 /// The events of a journal, with which of its records are tasks. Contracts see the past.
@@ -78,6 +80,75 @@ impl<'a, T> Tasks<'a, T> {
                 file,
             )
     }
+
+    /// Whether the record is a task that isn't running, and all its inputs are available.
+    pub(crate) fn can_run(&self, accepted: &Accepted) -> bool
+        ensures { result ≡ can_run self.now (record_of accepted.now) }
+    {
+        let made = id_of(accepted);
+        self.is_task(made)
+            && !self.seen.is_running(made)
+            && all_available(&self.seen, inputs_of(accepted))
+    }
+
+    /// Whether the record is a task that can be run now.
+    pub fn is_ready(&self, made: RecordId) -> bool
+        ensures { result ≡ is_ready self.now made }
+    {
+        any_ready(self, self.seen.records(), made)
+    }
+
+    /// Whether the file is neither pinned nor wanted.
+    pub fn may_go(&self, file: Output) -> bool
+        ensures { result ≡ may_go self.now file }
+    {
+        !self.seen.is_pinned(file) && !self.is_wanted(file)
+    }
+}
+
+impl<'a, T> Facts for Tasks<'a, T> {
+    ghost use Rattle.std.specs.Prelude.{◌≡◌};
+
+    ghost speaks_of = { λ tasks past. past ≡ tasks };
+
+    fn is_task(&self, made: RecordId) -> bool {
+        Tasks::is_task(self, made)
+    }
+
+    fn is_ready(&self, made: RecordId) -> bool {
+        Tasks::is_ready(self, made)
+    }
+
+    fn is_wanted(&self, file: FileId) -> bool {
+        Tasks::is_wanted(self, Output::from(file))
+    }
+}
+
+// Whether one of these records is of the number, and can be run.
+#[tactic(auto, using(crate::proofs::Awaits::ready_first))]
+fn any_ready<T>(tasks: &Tasks<'_, T>, records: &[Accepted], made: RecordId) -> bool
+    ensures { result ≡ list_any (has_id made) (filter (can_run tasks.now) (records_in records.now)) }
+{
+    for accepted in records {
+        if is_ready_of(tasks, accepted, made) {
+            return true;
+        }
+    }
+    false
+}
+
+// Whether the record is of the number, and can be run.
+fn is_ready_of<T>(tasks: &Tasks<'_, T>, accepted: &Accepted, made: RecordId) -> bool
+    ensures { result ≡ (has_id made (record_of accepted.now) && can_run tasks.now (record_of accepted.now)) }
+{
+    same_record(made, id_of(accepted)) && tasks.can_run(accepted)
+}
+
+// Whether all these files are in memory or saved.
+fn all_available<T>(seen: &Seen<'_, T>, files: &[Output]) -> bool
+    ensures { result ≡ all_available seen.now files.now }
+{
+    files.iter().all(|file| seen.is_available(*file))
 }
 
 // Which records are tasks, from the last to the first.

@@ -3,7 +3,6 @@ pub mod Steps
 pub mod Grows
 pub mod Walks
 pub mod News
-pub mod Puts
 pub mod Shapes
 pub mod Histories
 pub mod Lasts
