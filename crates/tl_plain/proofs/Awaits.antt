@@ -6,7 +6,7 @@ use Rattle.tl_types.specs.declared.record_id.RecordId.{RecordId}
 use Rattle.tl_types.specs.declared.file_id.FileId.{FileId}
 use Rattle.tl_model.specs.declared.record.Record.{Record}
 use Rattle.tl_model.specs.Past.{Past}
-use Rattle.tl_model.specs.Tables.{Table}
+use Rattle.tl_model.specs.Tables.{Table, chosen}
 use Rattle.tl_model.specs.History.{has_input, id_of}
 use Rattle.tl_model.specs.Actors.{is_running}
 use Rattle.tl_walk.specs.Accepts.{record_of, records_in}
@@ -45,3 +45,8 @@ ready_kept past made kept i x all within is fails so_far =
     ∙ ap (λ y. list_any (has_id made) (filter (can_run past) (record_of y ∷ records_in (drop (i + 1) kept)))) is
     ∙ ap (λ l. list_any (has_id made) (filter (can_run past) (records_in l))) (sym (drop_more kept i x within))
     ∙ so_far
+
+pub chosen_first : (test : Record → Bool) (r : Record) (is_chosen : Bool) (table : Table Record Bool) →
+    list_any test (chosen ((r, is_chosen) ∷ table)) ≡ ((is_chosen && test r) || list_any test (chosen table))
+chosen_first test r true table = refl
+chosen_first test r false table = refl
