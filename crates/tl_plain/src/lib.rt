@@ -5,6 +5,8 @@
 mod accepted;
 mod edge;
 mod eviction;
+mod judge;
+mod lawful;
 mod lives;
 mod needs;
 mod outputs;
@@ -16,6 +18,8 @@ mod tasks;
 
 pub use edge::{edge as edge_of, next_save};
 pub use eviction::{Sizes, files_on, first_to_drop, is_settled, used, victim};
+pub use judge::Judge;
+pub use lawful::Lawful;
 pub use lives::Life;
 pub use needs::Needs;
 pub use outputs::files as files_of;
