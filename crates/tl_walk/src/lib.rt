@@ -27,6 +27,7 @@ pub use names::{Name, Node, names as names_of};
 pub use open::{OpenClaim, OpenRead};
 pub use output::Output;
 pub use outputs::outputs_refusal;
+pub use parts::parts_of;
 pub use paths::{walk, walk_to_file, walk_to_parent};
 pub use records::{Accepted, records as records_of};
 pub use refusals::{count_refusal, delete_refusal, inputs_refusal, new_refusal};

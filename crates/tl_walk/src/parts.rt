@@ -9,7 +9,7 @@ use tl_types::{Items, NoMemory, Path};
 
 /// The components of the path.
 #[tactic(auto, using(crate::proofs::Steps::take_next))]
-pub(crate) fn parts_of(alloc: Global, path: &Path) -> Result<Vec<Items<u8>>, NoMemory>
+pub fn parts_of(alloc: Global, path: &Path) -> Result<Vec<Items<u8>>, NoMemory>
     ensures { IfOk result (λ parts. parts.items ≡ path.now) }
 {
     let mut parts = Vec::new(alloc);
