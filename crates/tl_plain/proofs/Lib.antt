@@ -5,5 +5,3 @@ pub mod Files
 pub mod Awaits
 pub mod Waits
 pub mod Workers
-pub mod Newest
-pub mod Wide

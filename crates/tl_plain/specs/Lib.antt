@@ -2,4 +2,3 @@ pub mod Seen
 pub mod Lives
 pub mod Prios
 pub mod Edges
-pub mod Owing

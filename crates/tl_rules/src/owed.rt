@@ -6,13 +6,13 @@ ghost use Rattle.tl_model.specs.Past.{Past, without_tickets};
 ghost use Rattle.tl_model.specs.Replies.{walk_to_file};
 ghost use Rattle.tl_model.specs.Residency.{is_resident};
 ghost use Rattle.tl_model.specs.Rules.{ok_file, owed, owed_after, owed_after_call, pays};
-ghost use Rattle.tl_plain.specs.Owing.{owed_of};
+ghost use Rattle.tl_rules.specs.Owing.{owed_of};
 
 use crate::judge::Judge;
 use crate::same::{same_actor, same_file};
-use crate::seen::Seen;
 use std::alloc::Global;
 use tl_model::{Act, Command, Event, Reply};
+use tl_plain::Seen;
 use tl_types::{Actor, NoMemory, Path, RecordId};
 use tl_walk::{Output, names_of, parts_of, walk_to_file};
 

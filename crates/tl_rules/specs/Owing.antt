@@ -1,7 +1,7 @@
 -- What is owed, as the program says it.
 use Rattle.tl_model.specs.Rules as rules
-use Rattle.tl_plain.specs.declared.owed.Owed.{Owed}
-use Rattle.tl_plain.specs.declared.owed.Owed.TheVariants.{Nothing, ToSave, ToFree, ToServe, ToDrop}
+use Rattle.tl_rules.specs.declared.owed.Owed.{Owed}
+use Rattle.tl_rules.specs.declared.owed.Owed.TheVariants.{Nothing, ToSave, ToFree, ToServe, ToDrop}
 
 abbrev pub owed_of : Owed → rules.Owed
 owed_of Nothing = rules.Owed.Nothing

@@ -6,10 +6,9 @@ ghost use Rattle.tl_model.specs.Past.{without_tickets};
 ghost use Rattle.tl_model.specs.Rules.{can_drop, has_digest, has_size_and_digest, put_as, put_in, put_of};
 
 use crate::judge::Judge;
-use crate::seen::Seen;
-use crate::tasks::Tasks;
 use std::alloc::Global;
 use tl_model::{Act, Command, Event, Reply};
+use tl_plain::{Seen, Tasks};
 use tl_types::{Digest, FileId, NoMemory, RecordId, WorkerId};
 use tl_walk::{Output, is_resident_on};
 

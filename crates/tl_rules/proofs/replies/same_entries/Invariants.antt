@@ -1,7 +1,7 @@
 use Rattle.std.proofs.Common.{◌≡◌, length}
 use Rattle.std.specs.Cmp.Lexicographic.{pointwise}
 use Rattle.tl_model.specs.Replies.{entry_same}
-use Rattle.tl_plain.proofs.replies.same_entries.Given as goal
+use Rattle.tl_rules.proofs.replies.same_entries.Given as goal
 
 abbrev pub invariant-entries : goal.invariant-entries
 invariant-entries l = pointwise entry_same l.left l.right ≡ pointwise entry_same l.a l.b

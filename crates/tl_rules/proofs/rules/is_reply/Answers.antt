@@ -1,7 +1,7 @@
 use Rattle.std.proofs.Common.{◌∙◌, reverse}
 use Rattle.tl_model.specs.History.{calls_of, reply_after}
-use Rattle.tl_plain.proofs.Wide.{wide_differs}
-use Rattle.tl_plain.proofs.rules.is_reply.Goals as goal
+use Rattle.tl_rules.proofs.Wide.{wide_differs}
+use Rattle.tl_rules.proofs.rules.is_reply.Goals as goal
 
 pub returns-in-None : goal.returns-in-None
 returns-in-None g c =

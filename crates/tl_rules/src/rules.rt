@@ -11,18 +11,14 @@ ghost use Rattle.tl_model.specs.Plan.{next};
 ghost use Rattle.tl_model.specs.Residency.{is_kept, is_resident, is_saved};
 ghost use Rattle.tl_model.specs.Rules.{broken, follows_free, follows_put, is_client, is_file, is_known_worker, is_open_on, is_permitted, is_record, last_actor_is, may_claim, rule_of};
 
-use crate::edge::next_save;
 use crate::follows::{follows_free, follows_put, last_actor_is};
 use crate::judge::Judge;
-use crate::needs::Needs;
 use crate::owed::{pays, what_is_owed};
-use crate::plan::Plan;
 use crate::replies::{names_wide, same_reply};
 use crate::same::{same_file, same_record, same_worker};
-use crate::seen::Seen;
-use crate::tasks::Tasks;
 use std::alloc::Global;
 use tl_model::{Act, Command, Event, Header, Reply};
+use tl_plain::{Needs, Plan, Seen, Tasks, next_save};
 use tl_types::{Actor, Digest, FileId, NoMemory, RecordId, WorkerId};
 use tl_walk::{
     OpenClaim, OpenRead, Output, is_idle, is_kept, is_resident, is_saved, open_claim, open_read,
