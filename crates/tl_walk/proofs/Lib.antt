@@ -6,3 +6,4 @@ pub mod News
 pub mod Shapes
 pub mod Histories
 pub mod Lasts
+pub mod Narrow

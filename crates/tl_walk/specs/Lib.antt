@@ -3,3 +3,4 @@ pub mod Names
 pub mod Accepts
 pub mod Answered
 pub mod Moves
+pub mod Few

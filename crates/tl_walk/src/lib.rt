@@ -32,7 +32,8 @@ pub use paths::{walk, walk_to_file, walk_to_parent};
 pub use records::{Accepted, records as records_of};
 pub use refusals::{count_refusal, delete_refusal, inputs_refusal, new_refusal};
 pub use replies::{
-    reply, reply_to, reply_to_job, reply_to_list, reply_to_put, reply_to_read, reply_to_stat,
+    reply, reply_of_few, reply_to, reply_to_job, reply_to_list, reply_to_put, reply_to_read,
+    reply_to_stat,
 };
 pub use residency::{
     is_available, is_collected, is_kept, is_output, is_resident, is_resident_on, is_saved,

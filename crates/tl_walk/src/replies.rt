@@ -4,6 +4,7 @@ ghost use Rattle.std.specs.Prelude.{◌≡◌, IfOk, length, reverse};
 ghost use Rattle.tl_model.specs.History.{calls_of, reply_after};
 ghost use Rattle.tl_model.specs.Replies.{count_refusal, inputs_refusal, new_refusal, opened, or_else, outputs_refusal, refusal_of, reply_to, reply_to_list, reply_to_stat, unless, walk, walk_to_file};
 ghost use Rattle.tl_walk.specs.Answered.{Says};
+ghost use Rattle.tl_walk.specs.Few.{AllMakeFew};
 ghost use Rattle.tl_walk.specs.Names.{names_in};
 
 use crate::directory::listing;
@@ -30,6 +31,19 @@ pub fn reply<T>(
 {
     let names = names(alloc, events)?;
     reply_to(alloc, &names, record_count(events), command)
+}
+
+/// The same, where each job in the history makes at most 256 files, so that every reply can be said.
+pub fn reply_of_few<T>(
+    alloc: Global,
+    events: &[Event<T>],
+    command: &Command<T>,
+) -> Result<Reply, NoMemory>
+    requires { AllMakeFew (calls_of (reverse events.now)) }
+    ensures { IfOk result (λ reply. reply ≡ reply_after (calls_of (reverse events.now)) command.now) }
+{
+    let found = reply(alloc, events, command)?;
+    Ok(found.unwrap())
 }
 
 /// The reply to the command on these names, after so many records.
