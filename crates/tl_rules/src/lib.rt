@@ -8,6 +8,8 @@ mod owed;
 mod replies;
 mod rules;
 mod same;
+#[cfg(test)]
+mod tests;
 
 pub use judge::Judge;
 pub use lawful::Lawful;
