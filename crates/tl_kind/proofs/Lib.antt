@@ -1,1 +1,3 @@
 pub mod ListKinds
+pub mod WordTable
+pub mod Printed

@@ -1,2 +1,4 @@
 pub mod Kinds
 pub mod Scope
+pub mod Words
+pub mod Written

@@ -4,7 +4,10 @@
 
 mod kind_error;
 mod kinds;
+mod printing;
 mod scope;
+mod word;
 
 pub use kind_error::{KindError, KindErrorKind};
 pub use kinds::check;
+pub use printing::print;
