@@ -1,3 +1,11 @@
 pub mod ListKinds
 pub mod WordTable
 pub mod Printed
+pub mod Tokens
+pub mod Trees
+pub mod Steps
+pub mod Programs
+pub mod Inverse
+pub mod Readings
+pub mod Unique
+pub mod Never

@@ -1,4 +1,6 @@
 pub mod Kinds
+pub mod Reading
+pub mod Refusals
 pub mod Scope
 pub mod Words
 pub mod Written

@@ -159,11 +159,15 @@ written_fits (with_parts w parts) (suc room) = nat_le (length parts) 16 && list_
 abbrev pub fits : Expr → ℕ → Bool
 fits = fold_tree (λ f. written_fits (written f))
 
--- the text is the program's spelling, of at most 4,096 bytes, with 1 to 8 outputs, and with
--- parentheses nested at most 32 deep, of which the program's own is the first
-pub record IsProgram (text : List ℕ) (program : Program) : Type 0 where
-  pub spelled : text ≡ program_text program
-  pub short : length text ≤ 4096
+-- the program is within the limits: its spelling has at most 4,096 bytes, it has 1 to 8 outputs, and
+-- parentheses are nested at most 32 deep, of which the program's own is the first
+pub record IsWithin (program : Program) : Type 0 where
+  pub short : length (program_text program) ≤ 4096
   pub some : 1 ≤ length program.outputs
   pub few : length program.outputs ≤ 8
   pub within : list_all (λ e. fits e 31) program.outputs ≡ true
+
+-- the text is the spelling of the program, which is within the limits
+pub record IsProgram (text : List ℕ) (program : Program) : Type 0 where
+  pub spelled : text ≡ program_text program
+  pub limits : IsWithin program

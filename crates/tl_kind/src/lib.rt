@@ -2,12 +2,23 @@
 //! against the kind rules.
 #![tactic(auto)]
 
+mod begin;
+mod builder;
+mod cursor;
+mod expression;
 mod kind_error;
 mod kinds;
+mod lang_error;
+pub mod laws;
+mod parsing;
 mod printing;
 mod scope;
+mod stop;
+mod token;
 mod word;
 
 pub use kind_error::{KindError, KindErrorKind};
 pub use kinds::check;
+pub use lang_error::{LangError, LangErrorKind};
+pub use parsing::parse;
 pub use printing::print;
