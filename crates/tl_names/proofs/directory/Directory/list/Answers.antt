@@ -1,0 +1,15 @@
+use Rattle.std.proofs.Common.{Ok, Err, subst, map, ap, ◌∙◌, ◌≡◌}
+use Rattle.std.specs.Result.{IfOk}
+use Rattle.std.specs.Cmp.Lexicographic.{slice_cmp}
+use Rattle.std.specs.List.Sorted.{IsStrictlySortedBy}
+use Rattle.std.specs.Map.{keys_of}
+use Rattle.std.specs.Ordering.{nat_cmp}
+use Rattle.tl_names.specs.Tables.{entry_in}
+use Rattle.tl_names.proofs.Entries.{ascending_children}
+use Rattle.tl_names.proofs.Results.{if_ok}
+use Rattle.tl_names.proofs.directory.Directory.list.Goals as goal
+
+pub returns-clause-ascending : goal.returns-clause-ascending
+returns-clause-ascending c =
+    if_ok c.entries_of.result
+    (subst (λ names. IsStrictlySortedBy (slice_cmp nat_cmp) (keys_of names)) c.self.view_is (ascending_children c.self.inside.children.entries c.len-ascending.ensures.ordered))

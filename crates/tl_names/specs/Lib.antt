@@ -1,0 +1,4 @@
+pub mod Answers
+pub mod Pins
+pub mod Standing
+pub mod Tables
