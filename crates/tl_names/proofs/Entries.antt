@@ -1,6 +1,5 @@
 -- The entries of a map in the order of its keys: what is found after a change.
 use Rattle.std.proofs.Common.{◌≡◌, ℕ, Bool, true, false, cond, List, [], ◌∷◌, ◌++◌, append_assoc, map, Option, Some, None, refl, sym, ap, ◌∙◌}
-use Rattle.std.specs.Prelude.{unwrap_or}
 use Rattle.std.specs.Global.{Vec}
 use Rattle.std.specs.Bool.{Decides}
 use Rattle.std.specs.Cmp.{IsEquivalence, decided}
@@ -153,21 +152,6 @@ distinct_children (e ∷ es) sorted =
     apart : (rest : List (Vec ℕ × Child)) → AllByRecursion (λ key. compared e.0.items key ≡ Less) (keys_of rest) → AllByRecursion (λ name. bytes_eq e.0.items name ≡ false) (keys_of (children_of rest))
     apart [] less = tt
     apart (f ∷ fs) less = (sym (is_eq-slice_cmp e.0.items f.0.items) ∙ ap is_eq less.0, apart fs less.1)
-
--- the names of a directory ascend
-pub ascending_children : (entries : List (Vec ℕ × Child)) → IsStrictlySortedBy (λ a b. compared a.items b) (keys_of entries) → IsStrictlySortedBy (slice_cmp nat_cmp) (keys_of (children_of entries))
-unfolding IsStrictlySortedBy
-ascending_children [] sorted = tt
-ascending_children (e ∷ es) sorted = (less es (sorted_head _ e.0 (keys_of es) sorted), ascending_children es (sorted_tail _ e.0 (keys_of es) sorted))
-  where
-    less : (rest : List (Vec ℕ × Child)) → AllByRecursion (λ key. compared e.0.items key ≡ Less) (keys_of rest) → AllByRecursion (λ name. slice_cmp nat_cmp e.0.items name ≡ Less) (keys_of (children_of rest))
-    less [] all = tt
-    less (f ∷ fs) all = (all.0, less fs all.1)
-
-pub none_ascends : (o : Option Children) → o ≡ None → IsStrictlySortedBy (slice_cmp nat_cmp) (keys_of (unwrap_or o []))
-unfolding IsStrictlySortedBy
-none_ascends None is = tt
-none_ascends (Some names) is = absurd (none-some names (sym is))
 
 -- a name that was removed from a directory is gone
 pub gone_from : (name : List ℕ) (entries : List (Vec ℕ × Child)) → IsStrictlySortedBy (λ a b. compared a.items b) (keys_of entries) →

@@ -17,11 +17,12 @@ use Rattle.tl_names.specs.declared.child.Child.{Child}
 use Rattle.tl_names.specs.declared.child.Child.TheVariants.{Dir, File}
 use Rattle.tl_names.specs.Tables.{Children, Dirs, children_at, child_at, found_child, walk_from, node_of, node_found, node_in, place, with_child, without_child, IsKnown, IsTree, MakesDir}
 use Rattle.tl_names.specs.Standing.{HasEachOnce, StandsFor}
+use Rattle.tl_names.proofs.Ascending.{Ascends, inserted_ascends, removed_ascends}
 use Rattle.tl_names.proofs.Below.{paths_apart, same_path}
 use Rattle.tl_names.proofs.Changes.{OneChanged, IsLeaf, LeafChanged}
 use Rattle.tl_names.proofs.Entries.{by_bytes, inserted_here, inserted_apart, removed_apart}
 use Rattle.tl_names.proofs.Lookups.{without_here, without_apart, without_once, pinned_here, pinned_apart, pinned_once}
-use Rattle.tl_names.proofs.Trees.{set_here, set_apart}
+use Rattle.tl_names.proofs.Trees.{set_here, set_apart, set_ascends}
 
 -- ---- leaves
 
@@ -94,3 +95,11 @@ unset_one dirs d n known = record { others = λ e m apart. by e m apart (cases_e
         ∙ ap (lookup (bytes_eq m)) (set_here dirs d (remove_entry (bytes_eq n) (children_at dirs d)) known)
         ∙ removed_apart (slice_cmp nat_cmp) bytes_eq by_bytes n m (children_at dirs d) (λ is. apart (same, is))
         ∙ ap (λ k. child_at dirs k m) (sym same)
+
+-- ---- the names still ascend
+
+pub with_ascends : (dirs : Dirs) (d : ℕ) (n : List ℕ) (x : Child) → IsTree dirs → IsKnown dirs d → (e : ℕ) → Ascends (children_at (with_child dirs d n x) e)
+with_ascends dirs d n x tree known = set_ascends dirs d (insert_entry (slice_cmp nat_cmp) (children_at dirs d) n x) known tree.ascending (inserted_ascends n x (children_at dirs d) (tree.ascending d))
+
+pub without_ascends : (dirs : Dirs) (d : ℕ) (n : List ℕ) → IsTree dirs → IsKnown dirs d → (e : ℕ) → Ascends (children_at (without_child dirs d n) e)
+without_ascends dirs d n tree known = set_ascends dirs d (remove_entry (bytes_eq n) (children_at dirs d)) known tree.ascending (removed_ascends n (children_at dirs d) (tree.ascending d))

@@ -1,4 +1,5 @@
 pub mod Answered
+pub mod Ascending
 pub mod Below
 pub mod Changes
 pub mod Entries
@@ -8,6 +9,8 @@ pub mod Listed
 pub mod Looked
 pub mod Lookups
 pub mod Made
+pub mod Movable
+pub mod Moved
 pub mod Outputs
 pub mod Pinned
 pub mod Places

@@ -25,6 +25,7 @@ use Rattle.tl_names.specs.declared.child.Child.{Child}
 use Rattle.tl_names.specs.declared.child.Child.TheVariants.{Dir, File}
 use Rattle.tl_names.specs.Tables.{Children, Dirs, children_at, child_at, entry_in, found_child, is_dir_child, node_found, node_in, place}
 use Rattle.tl_names.specs.Standing.{HasEachOnce, StandsFor}
+use Rattle.tl_names.proofs.Ascending.{Ascends, distinct_names, less_than_found, not_before, removed_ascends}
 use Rattle.tl_names.proofs.Below.{below_rest, is_below-append, paths_apart}
 use Rattle.tl_names.proofs.Entries.{by_bytes, keys_apart, same_key, removed_here, removed_apart}
 use Rattle.tl_names.proofs.Places.{below_place}
@@ -41,48 +42,6 @@ entry e = record { name = e.0; dir = e.1 }
 abbrev HasNamesOnce : Flags → Type 0
 HasNamesOnce [] = Unit {0}
 HasNamesOnce (e ∷ es) = (lookup (bytes_eq e.0) es ≡ None) × HasNamesOnce es
-
-abbrev Ascends : Flags → Type 0
-Ascends es = IsStrictlySortedBy (slice_cmp nat_cmp) (keys_of es)
-
-distinct_names : (es : Flags) → Ascends es → IsDistinct bytes_eq (keys_of es)
-unfolding IsDistinct
-distinct_names [] sorted = tt
-distinct_names (e ∷ es) sorted = (apart es (sorted_head _ e.0 (keys_of es) sorted), distinct_names es (sorted_tail _ e.0 (keys_of es) sorted))
-  where
-    apart : (rest : Flags) → AllByRecursion (λ name. slice_cmp nat_cmp e.0 name ≡ Less) (keys_of rest) → AllByRecursion (λ name. bytes_eq e.0 name ≡ false) (keys_of rest)
-    apart [] less = tt
-    apart (f ∷ fs) less = (sym (is_eq-slice_cmp e.0 f.0) ∙ ap is_eq less.0, apart fs less.1)
-
--- what is less than all is less than what is found
-less_than_found : (m n : List ℕ) (v : Bool) (es : Flags) → AllByRecursion (λ name. slice_cmp nat_cmp m name ≡ Less) (keys_of es) → lookup (bytes_eq n) es ≡ Some v → slice_cmp nat_cmp m n ≡ Less
-less_than_found m n v [] less found = absurd (none-some v found)
-less_than_found m n v (e ∷ es) less found = by (bytes_eq n e.0) refl found (less_than_found m n v es less.1)
-  where
-    by : (b : Bool) → bytes_eq n e.0 ≡ b → cond b (Some e.1) (lookup (bytes_eq n) es) ≡ Some v → (lookup (bytes_eq n) es ≡ Some v → slice_cmp nat_cmp m n ≡ Less) → slice_cmp nat_cmp m n ≡ Less
-    by true same is more = ap (slice_cmp nat_cmp m) ((bytes_eq-Decides n e.0).0 same) ∙ less.0
-    by false apart is more = more is
-
-removed_less : (m n : List ℕ) (es : Flags) → AllByRecursion (λ name. slice_cmp nat_cmp m name ≡ Less) (keys_of es) → AllByRecursion (λ name. slice_cmp nat_cmp m name ≡ Less) (keys_of (remove_entry (bytes_eq n) es))
-removed_less m n [] less = tt
-removed_less m n (e ∷ es) less = by (bytes_eq n e.0) (removed_less m n es less.1)
-  where
-    by : (b : Bool) → AllByRecursion (λ name. slice_cmp nat_cmp m name ≡ Less) (keys_of (remove_entry (bytes_eq n) es)) →
-        AllByRecursion (λ name. slice_cmp nat_cmp m name ≡ Less) (keys_of (cond b es (e ∷ remove_entry (bytes_eq n) es)))
-    by true more = less.1
-    by false more = (less.0, more)
-
-removed_ascends : (n : List ℕ) (es : Flags) → Ascends es → Ascends (remove_entry (bytes_eq n) es)
-unfolding IsStrictlySortedBy
-removed_ascends n [] sorted = tt
-removed_ascends n (e ∷ es) sorted = by (bytes_eq n e.0) (removed_ascends n es sorted.1)
-  where
-    by : (b : Bool) → Ascends (remove_entry (bytes_eq n) es) → Ascends (cond b es (e ∷ remove_entry (bytes_eq n) es))
-    by true more = sorted.1
-    by false more = (removed_less e.0 n es sorted.0, more)
-
-not_before : (a b : List ℕ) → slice_cmp nat_cmp a b ≡ Less → is_lt (slice_cmp nat_cmp b a) ≡ false
-not_before a b less = ap is_lt (nat_list_cmp_total.antisymm b a ∙ ap ordering_reverse less)
 
 -- an entry that is put in where it was taken out
 put_again : (n : List ℕ) (v : Bool) (es : Flags) → Ascends es → lookup (bytes_eq n) es ≡ Some v → put_by name_before (entry (n, v)) (map entry (remove_entry (bytes_eq n) es)) ≡ map entry es
@@ -226,7 +185,7 @@ flag_same (Some (Dir d)) = refl
 flag_same (Some (File f b)) = refl
 
 pub listing_same : (dirs : Dirs) (names : Names) → StandsFor dirs names → (path : PathOf) (d : ℕ) → place dirs path ≡ Ok (Dir d) →
-    IsStrictlySortedBy (slice_cmp nat_cmp) (keys_of (children_at dirs d)) → listing names path ≡ map entry_in (children_at dirs d)
+    Ascends (children_at dirs d) → listing names path ≡ map entry_in (children_at dirs d)
 listing_same dirs names stands path d at sorted =
     ap (sort_by name_before) (sym (entries_of (children names path)))
     ∙ sorted_is (map flag_of (children names path)) (map flag_in (children_at dirs d)) (children_once path names stands.once)
@@ -251,7 +210,7 @@ length-mapped f [] = refl
 length-mapped f (x ∷ xs) = ap suc (length-mapped f xs)
 
 pub count_same : (dirs : Dirs) (names : Names) → StandsFor dirs names → (path : PathOf) (d : ℕ) → place dirs path ≡ Ok (Dir d) →
-    IsStrictlySortedBy (slice_cmp nat_cmp) (keys_of (children_at dirs d)) → length (children names path) ≡ length (children_at dirs d)
+    Ascends (children_at dirs d) → length (children names path) ≡ length (children_at dirs d)
 count_same dirs names stands path d at sorted =
     sym (length-mapped entry_of (children names path)) ∙ sym (length-sort name_before (map entry_of (children names path)))
     ∙ ap length (listing_same dirs names stands path d at sorted) ∙ length-mapped entry_in (children_at dirs d)

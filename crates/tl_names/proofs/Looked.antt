@@ -50,10 +50,10 @@ stat_said : (dirs : Dirs) (path : PathOf) (found : Result Child Reply) (reply : 
 stat_said dirs path found reply at says names stands = says names stands ∙ ap (reply_to_stat names path) (sym (walk_same dirs names stands path ∙ ap found_as at))
 
 pub stat_dir : (dirs : Dirs) → IsTree dirs → (path : PathOf) (d n : ℕ) → place dirs path ≡ Ok (Dir d) → n ≡ length (children_at dirs d) →
-    IsStrictlySortedBy (slice_cmp nat_cmp) (keys_of (children_at dirs d)) → (pins : PinList) (count : ℕ) → Answers (tables dirs pins) (tables dirs pins) count (Stat path) (Stated (status.Dir n))
-stat_dir dirs tree path d n at counted sorted pins count =
+    (pins : PinList) (count : ℕ) → Answers (tables dirs pins) (tables dirs pins) count (Stat path) (Stated (status.Dir n))
+stat_dir dirs tree path d n at counted pins count =
     kept_answers (tables dirs pins) count (Stat path) (Stated (status.Dir n)) tree refl
-    (stat_said dirs path (Ok (Dir d)) (Stated (status.Dir n)) at (λ names stands. ap (λ k. Stated (status.Dir k)) (counted ∙ sym (count_same dirs names stands path d at sorted))))
+    (stat_said dirs path (Ok (Dir d)) (Stated (status.Dir n)) at (λ names stands. ap (λ k. Stated (status.Dir k)) (counted ∙ sym (count_same dirs names stands path d at (tree.ascending d)))))
 
 pub stat_file : (dirs : Dirs) → IsTree dirs → (path : PathOf) (f : FileId) (b : Bool) → place dirs path ≡ Ok (File f b) → (pins : PinList) (count : ℕ) →
     Answers (tables dirs pins) (tables dirs pins) count (Stat path) (Stated (status.File f b))
@@ -69,10 +69,10 @@ list_said : (dirs : Dirs) (path : PathOf) (found : Result Child Reply) (reply : 
 list_said dirs path found reply at says names stands = says names stands ∙ ap (reply_to_list names path) (sym (walk_same dirs names stands path ∙ ap found_as at))
 
 pub list_dir : (dirs : Dirs) → IsTree dirs → (path : PathOf) (d : ℕ) (entries : List Entry) → place dirs path ≡ Ok (Dir d) → entries ≡ map entry_in (children_at dirs d) →
-    IsStrictlySortedBy (slice_cmp nat_cmp) (keys_of (children_at dirs d)) → (pins : PinList) (count : ℕ) → Answers (tables dirs pins) (tables dirs pins) count (list path) (Listed entries)
-list_dir dirs tree path d entries at listed sorted pins count =
+    (pins : PinList) (count : ℕ) → Answers (tables dirs pins) (tables dirs pins) count (list path) (Listed entries)
+list_dir dirs tree path d entries at listed pins count =
     kept_answers (tables dirs pins) count (list path) (Listed entries) tree refl
-    (list_said dirs path (Ok (Dir d)) (Listed entries) at (λ names stands. ap Listed (listed ∙ sym (listing_same dirs names stands path d at sorted))))
+    (list_said dirs path (Ok (Dir d)) (Listed entries) at (λ names stands. ap Listed (listed ∙ sym (listing_same dirs names stands path d at (tree.ascending d)))))
 
 pub list_file : (dirs : Dirs) → IsTree dirs → (path : PathOf) (f : FileId) (b : Bool) → place dirs path ≡ Ok (File f b) → (pins : PinList) (count : ℕ) →
     Answers (tables dirs pins) (tables dirs pins) count (list path) NotDir

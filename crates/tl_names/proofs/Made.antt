@@ -11,8 +11,9 @@ use Rattle.tl_names.specs.declared.child.Child.{Child}
 use Rattle.tl_names.specs.declared.child.Child.TheVariants.{Dir, File}
 use Rattle.tl_names.specs.Tables.{Children, Dirs, children_at, child_at, found_child, node_of, node_found, node_in, place, put_in, put_at, room_for, with_child, IsKnown, IsTree, MakesDir}
 use Rattle.tl_names.specs.Standing.{StandsFor}
+use Rattle.tl_names.proofs.Ascending.{Ascends}
 use Rattle.tl_names.proofs.Changes.{OneChanged, IsLeaf, LeafChanged, leaf_changed}
-use Rattle.tl_names.proofs.Kept.{NamesChanged, child_set, empty_leaf, file_leaf, name_added, no_leaf, set_one, stands_changed}
+use Rattle.tl_names.proofs.Kept.{NamesChanged, child_set, empty_leaf, file_leaf, name_added, no_leaf, set_one, stands_changed, with_ascends}
 use Rattle.tl_names.proofs.Places.{below_place, known_place}
 use Rattle.tl_names.proofs.Rooms.{RoomAt, room_found}
 use Rattle.tl_names.proofs.Trees.{IsFree, set_apart, set_known, tree_changed}
@@ -39,7 +40,7 @@ put_there dirs path d x at = ap (put_in dirs (last_part path) x) at
 
 pub file_makes : (dirs : Dirs) → IsTree dirs → (path : PathOf) (d : ℕ) (f : FileId) (b : Bool) → RoomAt dirs path d → Makes dirs (with_child dirs d (last_part path) (File f b)) path (file f b)
 file_makes dirs tree path d f b room = record {
-  tree = tree_changed dirs new d (last_part path) tree one (λ e known. set_known dirs d e _ known)
+  tree = tree_changed dirs new d (last_part path) tree one (λ e known. set_known dirs d e _ known) (with_ascends dirs d (last_part path) (File f b) tree known)
       (record { known = λ k is. absurd (not_dir k (sym here ∙ is)); below = λ is. not_dir 0 (sym here ∙ is); alone = λ c k m is apart also. not_dir k (sym here ∙ is) });
   stands = λ names stands. new_leaf dirs new (parent path) path d (last_part path) (File f b) tree room.above room.again one room.new here (file_leaf new (File f b) (Some (File f b)) refl (λ k is. cc)) names stands;
 }
@@ -69,6 +70,7 @@ makes_file dirs tree path d f b found =
 pub makes_dir : (old new : Dirs) → IsTree old → (path : PathOf) (d : ℕ) → room_for old path ≡ Ok d → MakesDir old new path → Makes old new path dir
 makes_dir old new tree path d found made = record {
   tree = tree_changed old new d (last_part path) tree one (λ e known. made.known e (subst (λ dirs. IsKnown dirs e) (sym there) (set_known old d e _ known)))
+      (λ e. subst (λ cs. Ascends cs) (sym (same e)) (with_ascends old d (last_part path) (Dir made.number) tree known e))
       (record {
         known = λ k is. subst (IsKnown new) (dir_is k (sym here ∙ is)) made.made;
         below = λ is. vacant (subst (IsKnown old) (sym (dir_is 0 (sym here ∙ is))) tree.root);

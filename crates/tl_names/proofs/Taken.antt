@@ -30,10 +30,11 @@ use Rattle.tl_names.specs.Pins.{PinList, HasFilesOnce, PinsStandFor, names_file,
 use Rattle.tl_names.specs.Standing.{HasEachOnce, StandsFor}
 use Rattle.tl_names.specs.Tables.{Children, Dirs, children_at, child_at, file_of, found_child, node_found, node_in, place, with_child, without_child, IsKnown, IsTree}
 use Rattle.tl_names.proofs.Answered.{file_refuses, file_same_walk, kept_answers, same_count, walk_refuses}
+use Rattle.tl_names.proofs.Ascending.{Ascends}
 use Rattle.tl_names.proofs.Changes.{OneChanged, IsLeaf, LeafChanged, leaf_changed}
 use Rattle.tl_names.proofs.Entries.{inserted_here, inserted_apart, removed_apart}
 use Rattle.tl_names.proofs.Files.{by_file}
-use Rattle.tl_names.proofs.Kept.{NamesChanged, child_set, empty_leaf, file_leaf, name_pinned, name_removed, no_leaf, set_one, stands_changed, unset_one}
+use Rattle.tl_names.proofs.Kept.{NamesChanged, child_set, empty_leaf, file_leaf, name_pinned, name_removed, no_leaf, set_one, stands_changed, unset_one, with_ascends, without_ascends}
 use Rattle.tl_names.proofs.Listed.{count_same}
 use Rattle.tl_names.proofs.Outputs.{pin_absent}
 use Rattle.tl_names.proofs.Pinned.{any_split, file_found, file_gone, pin_here, pin_others, pinned_files, pinned_files_once, same_file, without_files_once}
@@ -88,12 +89,15 @@ leaf_at old new path d x o tree at one was is leaf =
     (leaf_changed old new (parent path) d (last_part path) tree at.above one (subst (IsLeaf old) (sym at.found) was) (subst (IsLeaf new) (sym is) leaf)))
 
 -- where the changed name stands for no directory, the tree stays one
-no_dir_tree : (old new : Dirs) (d : ℕ) (n : List ℕ) → IsTree old → OneChanged old new d n → ((e : ℕ) → IsKnown old e → IsKnown new e) → ((k : ℕ) → child_at new d n ≡ Some (Dir k) → ⊥) → IsTree new
-no_dir_tree old new d n tree one keeps none =
-    tree_changed old new d n tree one keeps (record { known = λ k is. absurd (none k is); below = none 0; alone = λ c k m is apart also. none k is })
+no_dir_tree : (old new : Dirs) (d : ℕ) (n : List ℕ) → IsTree old → OneChanged old new d n → ((e : ℕ) → IsKnown old e → IsKnown new e) → ((e : ℕ) → Ascends (children_at new e)) → ((k : ℕ) → child_at new d n ≡ Some (Dir k) → ⊥) → IsTree new
+no_dir_tree old new d n tree one keeps ascend none =
+    tree_changed old new d n tree one keeps ascend (record { known = λ k is. absurd (none k is); below = none 0; alone = λ c k m is apart also. none k is })
 
 taken_slots : (s mid : Slab Children) (d : ℕ) (n : List ℕ) → mid ≡ with_value s d (remove_entry (bytes_eq n) (children_at s.slots d)) → without_child s.slots d n ≡ mid.slots
 taken_slots s mid d n is = sym (ap (λ m. m.slots) is)
+
+taken_ascends : (s mid : Slab Children) (d : ℕ) (n : List ℕ) → IsTree s.slots → IsKnown s.slots d → mid ≡ with_value s d (remove_entry (bytes_eq n) (children_at s.slots d)) → (e : ℕ) → Ascends (children_at mid.slots e)
+taken_ascends s mid d n tree known is e = subst (λ slots. Ascends (children_at slots e)) (taken_slots s mid d n is) (without_ascends s.slots d n tree known e)
 
 -- ---- a file's name taken away
 
@@ -134,7 +138,7 @@ file_deleted s mid pins after path d f b tree at above is gone taken unpinned co
       same_count after (without_name names path) count [] refl
       (file_taken pins after names path f b count stands.once (sym (stands.found path) ∙ ap node_found at) taken unpinned stand);
   unchanged = λ no. absurd (true≢false no);
-  tree = no_dir_tree s.slots mid.slots d (last_part path) tree one keeps (λ k led. none-some (Dir k) (sym gone ∙ led));
+  tree = no_dir_tree s.slots mid.slots d (last_part path) tree one keeps (taken_ascends s mid d (last_part path) tree known is) (λ k led. none-some (Dir k) (sym gone ∙ led));
 }
   where
     there : At s.slots path d (File f b)
@@ -183,14 +187,14 @@ nothing_long [] short = refl
 nothing_long (n ∷ rest) short = let long : suc (length rest) ≡ 0 = short in absurd (omega arith)
 
 pub dir_deleted : (s mid : Slab Children) (new : Dirs) (pins : PinList) (path : PathOf) (d e : ℕ) → IsTree s.slots → (length path ≡ 0 → ⊥) → place s.slots path ≡ Ok (Dir e) →
-    place s.slots (parent path) ≡ Ok (Dir d) → length (children_at s.slots e) ≡ 0 → IsStrictlySortedBy (slice_cmp nat_cmp) (keys_of (children_at s.slots e)) →
+    place s.slots (parent path) ≡ Ok (Dir d) → length (children_at s.slots e) ≡ 0 →
     mid ≡ with_value s d (remove_entry (bytes_eq (last_part path)) (children_at s.slots d)) → child_at mid.slots d (last_part path) ≡ None → new ≡ slice_set mid.slots e None →
     (count : ℕ) → Answers (tables s.slots pins) (tables new pins) count (Delete path) Fine
-dir_deleted s mid new pins path d e tree some at above short sorted is gone freed count = record {
+dir_deleted s mid new pins path d e tree some at above short is gone freed count = record {
   said = λ names stands.
       sym (ap (λ w. unless (refusal_of (and_then w (λ node. cond (is_full names path node) (Err NotEmpty) (Ok node)))) Fine) (walk_same s.slots names stands path ∙ ap found_as at)
       ∙ ap (λ t. unless (refusal_of (cond {A = Found} (t || nat_lt 0 (length (children names path))) (Err NotEmpty) (Ok dir))) Fine) (others_zero (length path) some)
-      ∙ ap (λ n. unless (refusal_of (cond {A = Found} (nat_lt 0 n) (Err NotEmpty) (Ok dir))) Fine) (count_same s.slots names stands path e at sorted ∙ short));
+      ∙ ap (λ n. unless (refusal_of (cond {A = Found} (nat_lt 0 n) (Err NotEmpty) (Ok dir))) Fine) (count_same s.slots names stands path e at (tree.ascending e) ∙ short));
   names = λ names stands. stands_changed s.slots new names (without_name names path) path None stands leaf (name_removed names path stands.once);
   pins = λ names stands stand.
       same_count pins (without_name names path) count [] refl (dir_taken pins names path count stands.once (sym (stands.found path) ∙ ap node_found at) stand);
@@ -215,7 +219,7 @@ dir_deleted s mid new pins path d e tree some at above short sorted is gone free
     keeps k used = subst (λ slots. IsKnown slots k) (taken_slots s mid d (last_part path) is) (set_known s.slots d k _ used)
 
     mid_tree : IsTree mid.slots
-    mid_tree = no_dir_tree s.slots mid.slots d (last_part path) tree mid_one keeps (λ k led. none-some (Dir k) (sym gone ∙ led))
+    mid_tree = no_dir_tree s.slots mid.slots d (last_part path) tree mid_one keeps (taken_ascends s mid d (last_part path) tree known is) (λ k led. none-some (Dir k) (sym gone ∙ led))
 
     -- the directory taken away is not the one that its name stood in
     apart_dirs : d ≡ e → ⊥
@@ -249,9 +253,9 @@ dir_deleted s mid new pins path d e tree some at above short sorted is gone free
 
 -- ---- a name that can't be taken away
 
-pub full_deleted : (dirs : Dirs) (pins : PinList) (path : PathOf) (e : ℕ) → IsTree dirs → place dirs path ≡ Ok (Dir e) → IsStrictlySortedBy (slice_cmp nat_cmp) (keys_of (children_at dirs e)) →
+pub full_deleted : (dirs : Dirs) (pins : PinList) (path : PathOf) (e : ℕ) → IsTree dirs → place dirs path ≡ Ok (Dir e) →
     (length path ≡ 0) ⊎ (0 < length (children_at dirs e)) → (count : ℕ) → Answers (tables dirs pins) (tables dirs pins) count (Delete path) NotEmpty
-full_deleted dirs pins path e tree at sorted full count =
+full_deleted dirs pins path e tree at full count =
     kept_answers (tables dirs pins) count (Delete path) NotEmpty tree refl (λ names stands.
     sym (ap (λ w. unless (refusal_of (and_then w (λ node. cond (is_full names path node) (Err NotEmpty) (Ok node)))) Fine) (walk_same dirs names stands path ∙ ap found_as at)
     ∙ ap (λ t. unless (refusal_of (cond {A = Found} t (Err NotEmpty) (Ok dir))) Fine) (by names stands full)))
@@ -259,7 +263,7 @@ full_deleted dirs pins path e tree at sorted full count =
     by : (names : Names) → StandsFor dirs names → (length path ≡ 0) ⊎ (0 < length (children_at dirs e)) → is_full names path dir ≡ true
     by names stands (inl empty) = or_left (length path == 0) (nat_lt 0 (length (children names path))) (eq-eqb (length path) 0 empty)
     by names stands (inr some) =
-        or_right (length path == 0) (nat_lt 0 (length (children names path))) (ap (nat_lt 0) (count_same dirs names stands path e at sorted) ∙ lt-ltb 0 (length (children_at dirs e)) some)
+        or_right (length path == 0) (nat_lt 0 (length (children names path))) (ap (nat_lt 0) (count_same dirs names stands path e at (tree.ascending e)) ∙ lt-ltb 0 (length (children_at dirs e)) some)
 
 pub delete_refused : (dirs : Dirs) (pins : PinList) (path : PathOf) (r : Reply) → IsTree dirs → place dirs path ≡ Err r → (count : ℕ) → Answers (tables dirs pins) (tables dirs pins) count (Delete path) r
 delete_refused dirs pins path r tree at count =
@@ -319,7 +323,7 @@ file_pinned s new pins after path d f b pinned tree at above is set count = by p
     not_dir k led = cc
 
     new_tree : IsTree new.slots
-    new_tree = no_dir_tree s.slots new.slots d (last_part path) tree one keeps (λ k led. not_dir k (sym here ∙ led))
+    new_tree = no_dir_tree s.slots new.slots d (last_part path) tree one keeps (λ e. subst (λ slots. Ascends (children_at slots e)) slots_are (with_ascends s.slots d (last_part path) (File f pinned) tree known e)) (λ k led. not_dir k (sym here ∙ led))
 
     leaf : LeafChanged s.slots new.slots path (Some (File f pinned))
     leaf = leaf_at s.slots new.slots path d (File f b) (Some (File f pinned)) tree there one (file_leaf s.slots (File f b) (Some (File f b)) refl (λ k led. cc)) here

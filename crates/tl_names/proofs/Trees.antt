@@ -9,6 +9,7 @@ use Rattle.std.proofs.lemmas.Slice.Eq.{bytes_eq-Decides}
 use Rattle.tl_names.specs.declared.child.Child.{Child}
 use Rattle.tl_names.specs.declared.child.Child.TheVariants.{Dir, File}
 use Rattle.tl_names.specs.Tables.{Children, Dirs, children_at, child_at, IsKnown, IsTree}
+use Rattle.tl_names.proofs.Ascending.{Ascends}
 use Rattle.tl_names.proofs.Changes.{OneChanged}
 use Rattle.tl_names.proofs.Rooms.{known_within}
 
@@ -29,6 +30,14 @@ set_known dirs d e names known = by (cases_eq e d)
         (subst IsSome (sym (get_or-set_same dirs d (Some names) None (known_within dirs d (subst (IsKnown dirs) same known)))) refl)
     by (inr apart) = subst IsSome (sym (get_or-set_other dirs d e (Some names) None apart)) known
 
+-- where the new names ascend, those of every directory do
+pub set_ascends : (dirs : Dirs) (d : ℕ) (names : Children) → IsKnown dirs d → ((e : ℕ) → Ascends (children_at dirs e)) → Ascends names → (e : ℕ) → Ascends (children_at (slice_set dirs d (Some names)) e)
+set_ascends dirs d names known ascend sorted e = by (cases_eq e d)
+  where
+    by : (e ≡ d) ⊎ (e ≡ d → ⊥) → Ascends (children_at (slice_set dirs d (Some names)) e)
+    by (inl same) = subst (λ k. Ascends (children_at (slice_set dirs d (Some names)) k)) (sym same) (subst (λ cs. Ascends cs) (sym (set_here dirs d names known)) sorted)
+    by (inr apart) = subst (λ cs. Ascends cs) (sym (set_apart dirs d e (Some names) apart)) (ascend e)
+
 -- ---- one name changes
 
 pub same_name : (d e : ℕ) (n m : List ℕ) → ((e ≡ d) × (m ≡ n)) ⊎ ((e ≡ d) × (m ≡ n) → ⊥)
@@ -45,9 +54,10 @@ pub record IsFree (old new : Dirs) (d : ℕ) (n : List ℕ) : Type 0 where
   pub below : child_at new d n ≡ Some (Dir 0) → ⊥
   pub alone : (c k : ℕ) (m : List ℕ) → child_at new d n ≡ Some (Dir k) → ((c ≡ d) × (m ≡ n) → ⊥) → child_at old c m ≡ Some (Dir k) → ⊥
 
-pub tree_changed : (old new : Dirs) (d : ℕ) (n : List ℕ) → IsTree old → OneChanged old new d n → ((e : ℕ) → IsKnown old e → IsKnown new e) → IsFree old new d n → IsTree new
-tree_changed old new d n tree one keeps free = record {
+pub tree_changed : (old new : Dirs) (d : ℕ) (n : List ℕ) → IsTree old → OneChanged old new d n → ((e : ℕ) → IsKnown old e → IsKnown new e) → ((e : ℕ) → Ascends (children_at new e)) → IsFree old new d n → IsTree new
+tree_changed old new d n tree one keeps ascend free = record {
   root = keeps 0 tree.root;
+  ascending = ascend;
   known = λ c e m is. known_by c e m is (same_name d c n m);
   top = λ c m is. top_by c m is (same_name d c n m);
   once = λ c e k m o is also. once_by c e k m o is also (same_name d c n m) (same_name d e n o);
@@ -76,6 +86,7 @@ pub same_tree : (old new : Dirs) → IsTree old → ((d : ℕ) → children_at n
     ((d e : ℕ) (m : List ℕ) → child_at old d m ≡ Some (Dir e) → IsKnown new e) → IsTree new
 same_tree old new tree same root known = record {
   root = root;
+  ascending = λ d. subst (λ cs. Ascends cs) (sym (same d)) (tree.ascending d);
   known = λ d e m is. known d e m (back d m (Some (Dir e)) is);
   top = λ d m is. tree.top d m (back d m (Some (Dir 0)) is);
   once = λ c d e m o is also. tree.once c d e m o (back c m (Some (Dir e)) is) (back d o (Some (Dir e)) also);

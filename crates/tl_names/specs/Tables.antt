@@ -3,7 +3,8 @@ use Rattle.std.specs.Prelude.{◌≡◌, ℕ, ◌∷◌, [], List, map, Bool, tr
 use Rattle.std.specs.Global.{Vec}
 use Rattle.std.specs.BTreeMap.{insert_entry}
 use Rattle.std.specs.Cmp.Lexicographic.{slice_cmp}
-use Rattle.std.specs.Map.{lookup, remove_entry}
+use Rattle.std.specs.List.Sorted.{IsStrictlySortedBy}
+use Rattle.std.specs.Map.{keys_of, lookup, remove_entry}
 use Rattle.std.specs.Ordering.{nat_cmp}
 use Rattle.std.specs.Str.{bytes_eq}
 use Rattle.tl_types.specs.declared.file_id.FileId.{FileId}
@@ -118,9 +119,10 @@ take_at dirs path = take_from dirs (last_part path) (place dirs (parent path))
 abbrev pub IsKnown : Dirs → ℕ → Type 0
 IsKnown dirs d = IsSome (slice_index_or dirs d None)
 
--- the directories make a tree with `/` at its root
+-- the directories make a tree with `/` at its root, and the names in each ascend by their bytes
 pub record IsTree (dirs : Dirs) : Type 0 where
   pub root : IsKnown dirs 0
+  pub ascending : (d : ℕ) → IsStrictlySortedBy (slice_cmp nat_cmp) (keys_of (children_at dirs d))
   pub known : (d e : ℕ) (name : List ℕ) → child_at dirs d name ≡ Some (Dir e) → IsKnown dirs e
   pub top : (d : ℕ) (name : List ℕ) → child_at dirs d name ≡ Some (Dir 0) → ⊥
   pub once : (c d e : ℕ) (name other : List ℕ) → child_at dirs c name ≡ Some (Dir e) → child_at dirs d other ≡ Some (Dir e) → (c ≡ d) × (name ≡ other)

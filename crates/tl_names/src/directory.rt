@@ -1,6 +1,5 @@
 ghost use Rattle.std.specs.Prelude.{◌≡◌, [], length, map, None, IfOk, OnOk, OnErr};
-ghost use Rattle.std.specs.List.Sorted.{IsStrictlySortedBy};
-ghost use Rattle.std.specs.Map.{keys_of, lookup, remove_entry};
+ghost use Rattle.std.specs.Map.{lookup, remove_entry};
 ghost use Rattle.std.specs.BTreeMap.{insert_entry};
 ghost use Rattle.std.specs.Cmp.Lexicographic.{slice_cmp};
 ghost use Rattle.std.specs.Ordering.{nat_cmp};
@@ -10,6 +9,7 @@ ghost use Rattle.tl_names.specs.Tables.{children_of, entry_in};
 use crate::child::Child;
 use std::alloc::Global;
 use std::collections::BTreeMap;
+use std::collections::btree_map::Iter;
 use std::marker::Model;
 use tl_model::Entry;
 use tl_types::{Items, NoMemory};
@@ -41,8 +41,7 @@ impl Directory {
 
     /// The number of names.
     pub fn len(&self) -> usize
-        ensures count { result ≡ length self.now }
-        ensures ascending { IsStrictlySortedBy (slice_cmp nat_cmp) (keys_of self.now) }
+        ensures { result ≡ length self.now }
     {
         self.children.len()
     }
@@ -54,12 +53,17 @@ impl Directory {
         self.children.get(name).copied()
     }
 
+    /// The names, ascending by their bytes, each with what it stands for.
+    pub fn iter(&self) -> Iter<'_, Vec<u8>, Child>
+        ensures { children_of result ≡ self.now }
+    {
+        self.children.iter()
+    }
+
     /// The names, ascending by their bytes, each with whether it names a directory.
     pub fn list(&self, alloc: Global) -> Result<Vec<Entry>, NoMemory>
-        ensures entries { IfOk result (λ entries. entries.items ≡ map entry_in self.now) }
-        ensures ascending { IfOk result (λ _. IsStrictlySortedBy (slice_cmp nat_cmp) (keys_of self.now)) }
+        ensures { IfOk result (λ entries. entries.items ≡ map entry_in self.now) }
     {
-        let _ascending = self.children.len();
         entries_of(alloc, &self.children)
     }
 

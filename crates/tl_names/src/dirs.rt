@@ -3,8 +3,7 @@
 ghost use Rattle.std.specs.Prelude.{◌≡◌, ◌≤◌, ◌<◌, length, map, take, None, Ok, OnOk, OnErr, IfOk, IsOk};
 ghost use Rattle.std.specs.BTreeMap.{insert_entry};
 ghost use Rattle.std.specs.Cmp.Lexicographic.{slice_cmp};
-ghost use Rattle.std.specs.List.Sorted.{IsStrictlySortedBy};
-ghost use Rattle.std.specs.Map.{keys_of, remove_entry};
+ghost use Rattle.std.specs.Map.{remove_entry};
 ghost use Rattle.std.specs.Ordering.{nat_cmp};
 ghost use Rattle.std.specs.Str.{bytes_eq};
 ghost use Rattle.slab.specs.Slab.{with_value};
@@ -65,8 +64,7 @@ pub fn walk(dirs: &Slab<Directory>, path: &Path) -> Result<Child, Reply>
 
 /// The number of names in a directory.
 pub fn child_count(dirs: &Slab<Directory>, d: usize) -> usize
-    ensures count { result ≡ length (children_at dirs.now.slots d) }
-    ensures ascending { IsStrictlySortedBy (slice_cmp nat_cmp) (keys_of (children_at dirs.now.slots d)) }
+    ensures { result ≡ length (children_at dirs.now.slots d) }
 {
     match dirs.get(d) {
         Some(directory) => directory.len(),
@@ -76,8 +74,7 @@ pub fn child_count(dirs: &Slab<Directory>, d: usize) -> usize
 
 /// The names in a directory.
 pub fn listing(alloc: Global, dirs: &Slab<Directory>, d: usize) -> Result<Vec<Entry>, NoMemory>
-    ensures entries { IfOk result (λ entries. entries.items ≡ map entry_in (children_at dirs.now.slots d)) }
-    ensures ascending { IfOk result (λ _. IsStrictlySortedBy (slice_cmp nat_cmp) (keys_of (children_at dirs.now.slots d))) }
+    ensures { IfOk result (λ entries. entries.items ≡ map entry_in (children_at dirs.now.slots d)) }
 {
     match dirs.get(d) {
         Some(directory) => directory.list(alloc),

@@ -7,6 +7,7 @@ mod directory;
 mod dirs;
 mod looks;
 mod makes;
+mod moves;
 mod pinning;
 mod pins;
 

@@ -17,8 +17,8 @@ unset_child-requires-in-Ok-Dir c = known_place c.args.dirs.now.slots c.requires 
 
 pub returns-then-child_count-gt0 : goal.returns-then-child_count-gt0
 returns-then-child_count-gt0 c =
-    full_deleted c.args.dirs.now.slots c.args.pins.now c.args.path.now c.in-Ok-Dir.emptied c.requires (sym c.in-Ok-Dir.ensures ∙ ap Ok c.in-Ok-Dir.field-0-is) c.child_count.ensures.ascending
-    (inr (let counted : c.child_count.result ≡ length (children_at c.args.dirs.now.slots c.in-Ok-Dir.emptied) = c.child_count.ensures.count in omega arith))
+    full_deleted c.args.dirs.now.slots c.args.pins.now c.args.path.now c.in-Ok-Dir.emptied c.requires (sym c.in-Ok-Dir.ensures ∙ ap Ok c.in-Ok-Dir.field-0-is)
+    (inr (let counted : c.child_count.result ≡ length (children_at c.args.dirs.now.slots c.in-Ok-Dir.emptied) = c.child_count.ensures in omega arith))
 
 pub returns-in-Ok-File : goal.returns-in-Ok-File
 returns-in-Ok-File c =
@@ -33,8 +33,7 @@ returns-else-child_count-gt0 c =
     dir_deleted c.args.dirs.now c.unset_child-in-Ok-Dir.new.dirs c.remove-names.new.self.slots c.args.pins.now c.args.path.now c.above-d-in-Ok-Dir.result c.in-Ok-Dir.emptied c.requires
     (λ empty. true≢false (sym (c.is_empty.ensures.1 empty) ∙ c.if-is_empty.false))
     (sym c.in-Ok-Dir.ensures ∙ ap Ok c.in-Ok-Dir.field-0-is) c.above-d-in-Ok-Dir.ensures
-    (let counted : c.child_count.result ≡ length (children_at c.args.dirs.now.slots c.in-Ok-Dir.emptied) = c.child_count.ensures.count in omega arith)
-    c.child_count.ensures.ascending
+    (let counted : c.child_count.result ≡ length (children_at c.args.dirs.now.slots c.in-Ok-Dir.emptied) = c.child_count.ensures in omega arith)
     (c.unset_child-in-Ok-Dir.ensures.entries
     ∙ ap (λ name. with_value c.args.dirs.now c.above-d-in-Ok-Dir.result (remove_entry (bytes_eq name) (children_at c.args.dirs.now.slots c.above-d-in-Ok-Dir.result))) c.last_part-in-Ok-Dir.ensures)
     (ap (child_at c.unset_child-in-Ok-Dir.new.dirs.slots c.above-d-in-Ok-Dir.result) (sym c.last_part-in-Ok-Dir.ensures) ∙ c.unset_child-in-Ok-Dir.ensures.gone)

@@ -5,7 +5,7 @@ use Rattle.tl_names.proofs.looks.list.Goals as goal
 pub returns-in_ok-entries-in-Ok-Dir : goal.returns-in_ok-entries-in-Ok-Dir
 returns-in_ok-entries-in-Ok-Dir c =
     list_dir c.args.dirs.now.slots c.requires c.args.path.now c.in-Ok-Dir.d c.from_vec.result (sym c.in-Ok-Dir.ensures ∙ ap Ok c.in-Ok-Dir.field-0-is)
-    (c.from_vec.ensures ∙ c.in_ok-entries-in-Ok-Dir.ensures.entries) c.in_ok-entries-in-Ok-Dir.ensures.ascending
+    (c.from_vec.ensures ∙ c.in_ok-entries-in-Ok-Dir.ensures)
 
 pub returns-in-Ok-File : goal.returns-in-Ok-File
 returns-in-Ok-File c =
