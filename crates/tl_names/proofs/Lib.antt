@@ -1,5 +1,6 @@
 pub mod Answered
 pub mod Ascending
+pub mod Begun
 pub mod Below
 pub mod Changes
 pub mod Entries
@@ -9,6 +10,7 @@ pub mod Listed
 pub mod Looked
 pub mod Lookups
 pub mod Made
+pub mod Making
 pub mod Movable
 pub mod Moved
 pub mod Outputs

@@ -55,9 +55,9 @@ parts_differ path front i a b within at at_front apart = by (cases_Bool (is_belo
     by : (is_below path front ≡ true) ⊎ (is_below path front ≡ false) → false ≡ is_below path front
     by (inl below) =
         absurd (apart (sym (get_or_from_slice_get path i a [] at)
-          ∙ ap (λ p. get_or p i []) (below_rest path front below)
-          ∙ get_or-append front (drop (length front) path) [] i within
-          ∙ get_or_from_slice_get front i b [] at_front))
+        ∙ ap (λ p. get_or p i []) (below_rest path front below)
+        ∙ get_or-append front (drop (length front) path) [] i within
+        ∙ get_or_from_slice_get front i b [] at_front))
     by (inr apart_paths) = sym apart_paths
 
 pub too_short : (path front : PathOf) → length path < length front → false ≡ is_below path front
@@ -93,7 +93,7 @@ front_bytes path i =
 pub path_limits : (path : PathOf) → IsPath path → (length path ≤ 16) × (length (spelled path) ≤ 1024)
 path_limits path is =
     let outer : ((nat_le (length path) 16 && list_all is_component path) ≡ true) × (nat_le (length (spelled path)) 1024 ≡ true)
-        = and_parts (nat_le (length path) 16 && list_all is_component path) (nat_le (length (spelled path)) 1024) is in
+    = and_parts (nat_le (length path) 16 && list_all is_component path) (nat_le (length (spelled path)) 1024) is in
     let inner : (nat_le (length path) 16 ≡ true) × (list_all is_component path ≡ true) = and_parts (nat_le (length path) 16) (list_all is_component path) outer.0 in
     (leb-true (length path) 16 inner.0, leb-true (length (spelled path)) 1024 outer.1)
 
@@ -164,10 +164,11 @@ first_failing test (c ∷ cs) sorted fails = by (test c) refl (λ rest. first_fa
   where
     by : (b : Bool) → test c ≡ b → (list_all test cs ≡ false → Fails test cs) → Fails test (c ∷ cs)
     by false is more = record {
-        name = c.0; child = c.1;
-        found = cond-true (bytes_eq c.0 c.0) (Some c.1) (lookup (bytes_eq c.0) cs) ((bytes_eq-Decides c.0 c.0).1 refl);
-        fails = is;
-      }
+      name = c.0;
+      child = c.1;
+      found = cond-true (bytes_eq c.0 c.0) (Some c.1) (lookup (bytes_eq c.0) cs) ((bytes_eq-Decides c.0 c.0).1 refl);
+      fails = is;
+    }
     by true is more =
         let rest : Fails test cs = more (sym (ap (λ b. b && list_all test cs) is) ∙ fails) in
         record { name = rest.name; child = rest.child; found = later_found c cs rest.name rest.child sorted rest.found; fails = rest.fails }
@@ -190,11 +191,11 @@ fits_all dirs (suc parts) bytes n x y [] fits led =
 fits_all dirs (suc parts) bytes n (File f b) y (m ∷ rest) fits led = absurd cc
 fits_all dirs (suc parts) bytes n (Dir d) y (m ∷ rest) fits led =
     let halves : (nat_lt (length n) bytes ≡ true) × (list_all (child_fits dirs parts (bytes - 1 - length n)) (children_at dirs d) ≡ true)
-        = and_parts (nat_lt (length n) bytes) (list_all (child_fits dirs parts (bytes - 1 - length n)) (children_at dirs d)) fits in
+    = and_parts (nat_lt (length n) bytes) (list_all (child_fits dirs parts (bytes - 1 - length n)) (children_at dirs d)) fits in
     let room : length n < bytes = ltb-true (length n) bytes halves.0 in
     let next : (z : Child) × (child_at dirs d m ≡ Some z) × (walk_from dirs rest z ≡ Ok y) = next_found dirs d m rest y led in
     let more : (length rest + 1 ≤ parts) × (bytes_of rest + (1 + length m) ≤ bytes - 1 - length n)
-        = fits_all dirs parts (bytes - 1 - length n) m next.0 y rest (all_found (child_fits dirs parts (bytes - 1 - length n)) m next.0 (children_at dirs d) halves.1 next.1) next.2 in
+    = fits_all dirs parts (bytes - 1 - length n) m next.0 y rest (all_found (child_fits dirs parts (bytes - 1 - length n)) m next.0 (children_at dirs d) halves.1 next.1) next.2 in
     let parts_more : length rest + 1 ≤ parts = more.0 in
     let bytes_left : bytes_of rest + (1 + length m) ≤ bytes - 1 - length n = more.1 in
     let both : bytes_of (m ∷ rest) ≡ bytes_of (m ∷ []) + bytes_of rest = bytes_append (m ∷ []) rest in
@@ -214,6 +215,7 @@ fits_not dirs tree (suc parts) bytes n x fails = by (nat_lt (length n) bytes) re
   where
     full : (y : Child) → bytes ≤ length n → IsTooLong dirs (suc parts) bytes n y
     full y room = record { path = []; end = y; led = refl; long = inr (omega arith) }
+
     by : (b : Bool) → nat_lt (length n) bytes ≡ b → (y : Child) → (b && all_below dirs (child_fits dirs parts (bytes - 1 - length n)) y) ≡ false →
         ((m : List ℕ) (z : Child) → child_fits dirs parts (bytes - 1 - length n) (m, z) ≡ false → IsTooLong dirs parts (bytes - 1 - length n) m z) → IsTooLong dirs (suc parts) bytes n y
     by false is y none more = full y (ltb-false (length n) bytes is)
@@ -277,11 +279,11 @@ record Limits (to q : PathOf) : Type 0 where
 limits_of : (to q : PathOf) → 0 < length to → Limits to q
 limits_of [] q some = absurd (omega arith)
 limits_of (part ∷ rest) q some = record {
-    long = length-append (part ∷ rest) q;
-    bytes = spelled_is ((part ∷ rest) ++ q) (let longer : length ((part ∷ rest) ++ q) ≡ length (part ∷ rest) + length q = length-append (part ∷ rest) q in omega arith)
+  long = length-append (part ∷ rest) q;
+  bytes = spelled_is ((part ∷ rest) ++ q) (let longer : length ((part ∷ rest) ++ q) ≡ length (part ∷ rest) + length q = length-append (part ∷ rest) q in omega arith)
       ∙ bytes_append (part ∷ rest) q
       ∙ ap (λ n. n + bytes_of q) (ap bytes_of (sym (parts_again part rest)) ∙ bytes_append (parent (part ∷ rest)) (last_part (part ∷ rest) ∷ []) ∙ ap (λ n. bytes_of (parent (part ∷ rest)) + n) (bytes_one (last_part (part ∷ rest))));
-  }
+}
 
 within : (to q : PathOf) (b : ℕ) → 0 < length to → length to ≤ 16 → b ≡ bytes_of (parent to) → b ≤ 1024 → length q + 1 ≤ 17 - length to → bytes_of q + (1 + length (last_part to)) ≤ 1024 - b → within_limits (to ++ q) ≡ true
 within to q b some short is low parts bytes =
@@ -313,9 +315,10 @@ not_deep dirs names stands from to x b at some short is low fits = any_none (dee
     below : (q rest : PathOf) → IsSome (node_at names q) → q ≡ from ++ rest → within_limits (moved from to q) ≡ true
     below q rest found q_is =
         let led : (y : Child) × (walk_from dirs rest x ≡ Ok y)
-            = end_of (walk_from dirs rest x) (subst IsSome (ap (node_at names) q_is ∙ found_below dirs names stands from rest x at) found) in
+        = end_of (walk_from dirs rest x) (subst IsSome (ap (node_at names) q_is ∙ found_below dirs names stands from rest x at) found) in
         let room : (length rest + 1 ≤ 17 - length to) × (bytes_of rest + (1 + length (last_part to)) ≤ 1024 - b) = fits_all dirs (17 - length to) (1024 - b) (last_part to) x led.0 rest fits led.1 in
         ap (λ p. within_limits (moved from to p)) q_is ∙ ap within_limits (moved_below from to rest) ∙ within to rest b some short is low room.0 room.1
+
     by : (q : PathOf) → IsSome (node_at names q) → (t : Bool) → is_below q from ≡ t → deep from to q ≡ false
     by q found false apart = and_left (is_below q from) (not (within_limits (moved from to q))) apart
     by q found true is_there = and_right (is_below q from) (not (within_limits (moved from to q))) (ap not (below q (drop (length from) q) found (below_rest q from is_there)))
@@ -327,7 +330,7 @@ is_deep dirs names tree stands from to x b at some short is low fails =
     any_some (deep from to) names (from ++ long.path)
     (ap is_some (found_below dirs names stands from long.path x at ∙ ap node_found long.led))
     (and_from (is_below (from ++ long.path) from) (not (within_limits (moved from to (from ++ long.path)))) (is_below-append from long.path)
-      (ap not (ap within_limits (moved_below from to long.path) ∙ beyond to long.path b some short is low long.long)))
+    (ap not (ap within_limits (moved_below from to long.path) ∙ beyond to long.path b some short is low long.long)))
 
 -- ---- what the code meets
 

@@ -54,8 +54,10 @@ moved_once_only from to p e p_off e_off same = by (is_below p from) refl (is_bel
   where
     goes : (q : PathOf) → is_below q from ≡ true → moved from to q ≡ to ++ drop (length from) q
     goes q below = cond-true (is_below q from) (to ++ drop (length from) q) q below
+
     stays : (q : PathOf) → is_below q from ≡ false → moved from to q ≡ q
     stays q apart = cond-false (is_below q from) (to ++ drop (length from) q) q apart
+
     by : (b : Bool) → is_below p from ≡ b → (c : Bool) → is_below e from ≡ c → p ≡ e
     by true p_in true e_in =
         below_rest p from p_in ∙ ap (λ r. from ++ r) (append_cancel_left to (drop (length from) p) (drop (length from) e) (sym (goes p p_in) ∙ same ∙ goes e e_in)) ∙ sym (below_rest e from e_in)
@@ -118,6 +120,7 @@ comparable (x ∷ a) (y ∷ b) s r same = by (comparable a b s r cc)
   where
     first : x ≡ y
     first = cc
+
     by : (is_below a b ≡ true) ⊎ (is_below b a ≡ true) → (is_below (x ∷ a) (y ∷ b) ≡ true) ⊎ (is_below (y ∷ b) (x ∷ a) ≡ true)
     by (inl below) = inl (below_from (x ∷ a) (y ∷ b) (drop (length b) a) (ap (λ z. z ∷ a) first ∙ ap (λ p. y ∷ p) (below_rest a b below)))
     by (inr below) = inr (below_from (y ∷ b) (x ∷ a) (drop (length a) b) (ap (λ z. z ∷ b) (sym first) ∙ ap (λ p. x ∷ p) (below_rest b a below)))
@@ -159,6 +162,7 @@ module _ (old new : Dirs) (from to : PathOf) (x : Child) (d e : ℕ) (move : Mov
       either : (is_below from to ≡ true) ⊎ (is_below to from ≡ true) → ⊥
       either (inl below) = true≢false (sym below ∙ from_off)
       either (inr below) = true≢false (sym below ∙ move.apart)
+
       by : (b : Bool) → is_below q to ≡ b → b ≡ false
       by false is = refl
       by true is = absurd (either (comparable from to (drop (length from) q) (drop (length to) q) (sym (below_rest q from q_in) ∙ below_rest q to is)))
@@ -166,8 +170,8 @@ module _ (old new : Dirs) (from to : PathOf) (x : Child) (d e : ℕ) (move : Mov
   off : SameOff old new (Touched from to)
   off = record {
     child = λ p c m led free. move.others c m
-      (λ both. free (inr (ap (λ q. q ++ m ∷ []) (unique_path old move.tree p (parent to) d (led ∙ ap (λ k. Ok (Dir k)) both.0) move.room.above) ∙ ap (λ k. parent to ++ k ∷ []) both.1 ∙ move.room.again)))
-      (λ both. free (inl (ap (λ q. q ++ m ∷ []) (unique_path old move.tree p (parent from) e (led ∙ ap (λ k. Ok (Dir k)) both.0) move.left.above) ∙ ap (λ k. parent from ++ k ∷ []) both.1 ∙ move.left.again)));
+        (λ both. free (inr (ap (λ q. q ++ m ∷ []) (unique_path old move.tree p (parent to) d (led ∙ ap (λ k. Ok (Dir k)) both.0) move.room.above) ∙ ap (λ k. parent to ++ k ∷ []) both.1 ∙ move.room.again)))
+        (λ both. free (inl (ap (λ q. q ++ m ∷ []) (unique_path old move.tree p (parent from) e (led ∙ ap (λ k. Ok (Dir k)) both.0) move.left.above) ∙ ap (λ k. parent from ++ k ∷ []) both.1 ∙ move.left.again)));
   }
 
   -- away from both places nothing changes
@@ -232,18 +236,22 @@ module _ (old new : Dirs) (from to : PathOf) (x : Child) (d e : ℕ) (move : Mov
     where
       none : NoneBelow to names
       none = none_below to names (λ q below. sym (stands.found q) ∙ ap node_found (ap (place old) (below_rest q to below) ∙ absent_below (drop (length to) q)))
+
       there : (q s : PathOf) → q ≡ to ++ s → node_in new q ≡ node_at (with_moved names from to) q
       there q s is =
           ap (node_in new) is ∙ ap node_found (moved_place s) ∙ stands.found (from ++ s)
           ∙ sym (moved_at from to (from ++ s) names none (below_from_off (from ++ s) (is_below-append from s)))
           ∙ ap (node_at (with_moved names from to)) (moved_below from to s ∙ sym is)
+
       gone_from : (q s : PathOf) → q ≡ from ++ s → is_below q from ≡ true → is_below q to ≡ false → node_in new q ≡ node_at (with_moved names from to) q
       gone_from q s is q_in q_off = ap (node_in new) is ∙ ap node_found (left_place s) ∙ sym (moved_left from to q names q_in q_off)
+
       away : (q : PathOf) → is_below q to ≡ false → (b : Bool) → is_below q from ≡ b → node_in new q ≡ node_at (with_moved names from to) q
       away q q_off true q_in = gone_from q (drop (length from) q) (below_rest q from q_in) q_in q_off
       away q q_off false q_out =
           ap node_found (same_place q q_out q_off) ∙ stands.found q ∙ sym (moved_at from to q names none q_off)
           ∙ ap (node_at (with_moved names from to)) (cond-false (is_below q from) (to ++ drop (length from) q) q q_out)
+
       by : (q : PathOf) (b : Bool) → is_below q to ≡ b → node_in new q ≡ node_at (with_moved names from to) q
       by q true q_in = there q (drop (length to) q) (below_rest q to q_in)
       by q false q_off = away q q_off (is_below q from) refl
@@ -260,21 +268,22 @@ module _ (old new : Dirs) (from to : PathOf) (x : Child) (d e : ℕ) (move : Mov
     where
       by : ((c ≡ d) × (m ≡ last_part to)) ⊎ ((c ≡ d) × (m ≡ last_part to) → ⊥) → ((c ≡ e) × (m ≡ last_part from)) ⊎ ((c ≡ e) × (m ≡ last_part from) → ⊥) → WasAt c k m
       by (inl both) other = record {
-          dir = e; name = last_part from;
-          was = move.left.found ∙ sym move.here ∙ ap (λ j. child_at new j (last_part to)) (sym both.0) ∙ ap (child_at new c) (sym both.1) ∙ is;
-          now = inl (both.0, both.1, refl, refl);
-        }
+        dir = e;
+        name = last_part from;
+        was = move.left.found ∙ sym move.here ∙ ap (λ j. child_at new j (last_part to)) (sym both.0) ∙ ap (child_at new c) (sym both.1) ∙ is;
+        now = inl (both.0, both.1, refl, refl);
+      }
       by (inr apart) (inl both) = absurd (none-some (Dir k) (sym move.gone ∙ ap (λ j. child_at new j (last_part from)) (sym both.0) ∙ ap (child_at new c) (sym both.1) ∙ is))
       by (inr apart) (inr off_from) = record { dir = c; name = m; was = sym (move.others c m apart off_from) ∙ is; now = inr (refl, refl, off_from) }
 
   pub moved_tree : IsTree new
   moved_tree = record {
-      root = move.known 0 move.tree.root;
-      ascending = move.ascending;
-      known = λ c k m is. let was : WasAt c k m = was_at c k m is in move.known k (move.tree.known was.dir k was.name was.was);
-      top = λ c m is. let was : WasAt c 0 m = was_at c 0 m is in move.tree.top was.dir was.name was.was;
-      once = λ b c k m o is also. by b c k m o (was_at b k m is) (was_at c k o also);
-    }
+    root = move.known 0 move.tree.root;
+    ascending = move.ascending;
+    known = λ c k m is. let was : WasAt c k m = was_at c k m is in move.known k (move.tree.known was.dir k was.name was.was);
+    top = λ c m is. let was : WasAt c 0 m = was_at c 0 m is in move.tree.top was.dir was.name was.was;
+    once = λ b c k m o is also. by b c k m o (was_at b k m is) (was_at c k o also);
+  }
     where
       by : (b c k : ℕ) (m o : List ℕ) → WasAt b k m → WasAt c k o → (b ≡ c) × (m ≡ o)
       by b c k m o one other = both one.now other.now (move.tree.once one.dir other.dir k one.name other.name one.was other.was)
@@ -301,36 +310,52 @@ pub moved_by : (s mid new : Slab Children) (from to : PathOf) (x : Child) (d e :
     place s.slots (parent from) ≡ Ok (Dir e) → mid ≡ with_value s d (insert_entry (slice_cmp nat_cmp) (children_at s.slots d) (last_part to) x) →
     new ≡ with_value mid e (remove_entry (bytes_eq (last_part from)) (children_at mid.slots e)) → child_at new.slots e (last_part from) ≡ None → Move s.slots new.slots from to x d e
 moved_by s mid new from to x d e tree at apart found above mid_is new_is gone = record {
-    tree = tree; at = at; apart = apart; room = room; left = left; gone = gone;
-    here = two.others d (last_part to) not_both ∙ here_mid;
-    others = λ c m off_to off_from. two.others c m off_from ∙ one.others c m off_to;
-    known = λ c used. subst (λ slots. IsKnown slots c) new_slots (set_known mid.slots e c _ (keeps c used));
-    ascending = λ c. subst (λ slots. Ascends (children_at slots c)) new_slots
+  tree = tree;
+  at = at;
+  apart = apart;
+  room = room;
+  left = left;
+  gone = gone;
+  here = two.others d (last_part to) not_both ∙ here_mid;
+  others = λ c m off_to off_from. two.others c m off_from ∙ one.others c m off_to;
+  known = λ c used. subst (λ slots. IsKnown slots c) new_slots (set_known mid.slots e c _ (keeps c used));
+  ascending = λ c. subst (λ slots. Ascends (children_at slots c)) new_slots
       (set_ascends mid.slots e (remove_entry (bytes_eq (last_part from)) (children_at mid.slots e)) known_e mid_ascends (removed_ascends (last_part from) (children_at mid.slots e) (mid_ascends e)) c);
-  }
+}
   where
     room : RoomAt s.slots to d
     room = room_found s.slots to d found
+
     left : At s.slots from e x
     left = at_is s.slots from e x (from_some from to apart) at above
+
     mid_slots : with_child s.slots d (last_part to) x ≡ mid.slots
     mid_slots = sym (ap (λ m. m.slots) mid_is)
+
     new_slots : without_child mid.slots e (last_part from) ≡ new.slots
     new_slots = sym (ap (λ m. m.slots) new_is)
+
     known_d : IsKnown s.slots d
     known_d = known_place s.slots tree (parent to) d room.above
+
     keeps : (c : ℕ) → IsKnown s.slots c → IsKnown mid.slots c
     keeps c used = subst (λ slots. IsKnown slots c) mid_slots (set_known s.slots d c _ used)
+
     known_e : IsKnown mid.slots e
     known_e = keeps e (known_place s.slots tree (parent from) e above)
+
     one : OneChanged s.slots mid.slots d (last_part to)
     one = subst (λ slots. OneChanged s.slots slots d (last_part to)) mid_slots (set_one s.slots d (last_part to) x known_d)
+
     two : OneChanged mid.slots new.slots e (last_part from)
     two = subst (λ slots. OneChanged mid.slots slots e (last_part from)) new_slots (unset_one mid.slots e (last_part from) known_e)
+
     here_mid : child_at mid.slots d (last_part to) ≡ Some x
     here_mid = ap (λ slots. child_at slots d (last_part to)) (sym mid_slots) ∙ child_set s.slots d (last_part to) x known_d
+
     not_both : (d ≡ e) × (last_part to ≡ last_part from) → ⊥
     not_both both = none-some x (sym room.new ∙ ap (λ k. child_at s.slots k (last_part to)) both.0 ∙ ap (child_at s.slots e) both.1 ∙ left.found)
+
     mid_ascends : (c : ℕ) → Ascends (children_at mid.slots c)
     mid_ascends c = subst (λ slots. Ascends (children_at slots c)) mid_slots (with_ascends s.slots d (last_part to) x tree known_d c)
 
@@ -339,7 +364,7 @@ refusal_is : (dirs : Dirs) (names : Names) → StandsFor dirs names → (from to
     rename_refusal names from to ≡ or_else (refusal_of (found_as found)) (or_else (refuse_where b IntoItself) (or_else (refusal_of (room_for dirs to)) (refuse_where (is_too_deep names from to) TooDeep)))
 refusal_is dirs names stands from to found b at below =
     ap (λ w. or_else (refusal_of w) (or_else (refuse_where (is_below to from) IntoItself) (or_else (new_refusal names to) (refuse_where (is_too_deep names from to) TooDeep))))
-      (walk_same dirs names stands from ∙ ap found_as at)
+    (walk_same dirs names stands from ∙ ap found_as at)
     ∙ ap (λ t. or_else (refusal_of (found_as found)) (or_else (refuse_where t IntoItself) (or_else (new_refusal names to) (refuse_where (is_too_deep names from to) TooDeep)))) below
     ∙ ap (λ o. or_else (refusal_of (found_as found)) (or_else (refuse_where b IntoItself) (or_else o (refuse_where (is_too_deep names from to) TooDeep)))) (room_same dirs names stands to)
 
@@ -363,28 +388,28 @@ pub rename_too_deep : (dirs : Dirs) → IsTree dirs → (from to : PathOf) (x : 
     child_fits dirs (17 - length to) (1024 - b) (last_part to, x) ≡ false → (pins : PinList) (count : ℕ) → Answers (tables dirs pins) (tables dirs pins) count (Rename from to) TooDeep
 rename_too_deep dirs tree from to x d b at apart room short is low fails pins count =
     kept_answers (tables dirs pins) count (Rename from to) TooDeep tree refl (λ names stands. sym (ap (λ o. unless o Fine)
-      (refusal_is dirs names stands from to (Ok x) false at apart
-      ∙ ap (λ w. or_else (refusal_of w) (refuse_where (is_too_deep names from to) TooDeep)) room
-      ∙ ap (λ t. refuse_where t TooDeep) (is_deep dirs names tree stands from to x b at (room_some dirs to d room) short is low fails))))
+    (refusal_is dirs names stands from to (Ok x) false at apart
+    ∙ ap (λ w. or_else (refusal_of w) (refuse_where (is_too_deep names from to) TooDeep)) room
+    ∙ ap (λ t. refuse_where t TooDeep) (is_deep dirs names tree stands from to x b at (room_some dirs to d room) short is low fails))))
 
 moved_pins : (pins : PinList) (names : Names) (from to : PathOf) (count : ℕ) → PinsStandFor pins names count → PinsStandFor pins (with_moved names from to) count
 moved_pins pins names from to count stand = record {
-    found = λ f. stand.found f
+  found = λ f. stand.found f
       ∙ ap (λ t. cond t (Some (list_any (pins_file f) names)) None) (sym (moved_any (is_file_node f) from to names))
       ∙ ap (λ t. cond (list_any (names_file f) (with_moved names from to)) (Some t) None) (sym (moved_any (is_pinned_node f) from to names));
-    once = moved_files_once from to names stand.once;
-    made = λ f named. stand.made f (sym (moved_any (is_file_node f) from to names) ∙ named);
-  }
+  once = moved_files_once from to names stand.once;
+  made = λ f named. stand.made f (sym (moved_any (is_file_node f) from to names) ∙ named);
+}
 
 pub rename_done : (old new : Dirs) (from to : PathOf) (x : Child) (d e b : ℕ) → Move old new from to x d e → room_for old to ≡ Ok d → length to ≤ 16 → b ≡ bytes_of (parent to) → b ≤ 1024 →
     child_fits old (17 - length to) (1024 - b) (last_part to, x) ≡ true → (pins : PinList) (count : ℕ) → Answers (tables old pins) (tables new pins) count (Rename from to) Fine
 rename_done old new from to x d e b move room short is low fits pins count = record {
-    said = λ names stands. sym (ap (λ o. unless o Fine)
+  said = λ names stands. sym (ap (λ o. unless o Fine)
       (refusal_is old names stands from to (Ok x) false move.at move.apart
       ∙ ap (λ w. or_else (refusal_of w) (refuse_where (is_too_deep names from to) TooDeep)) room
       ∙ ap (λ t. refuse_where t TooDeep) (not_deep old names stands from to x b move.at (room_some old to d room) short is low fits)));
-    names = λ names stands. moved_stands old new from to x d e move names stands;
-    pins = λ names stands stand. same_count pins (with_moved names from to) count [] refl (moved_pins pins names from to count stand);
-    unchanged = λ no. absurd (true≢false no);
-    tree = moved_tree old new from to x d e move;
-  }
+  names = λ names stands. moved_stands old new from to x d e move names stands;
+  pins = λ names stands stand. same_count pins (with_moved names from to) count [] refl (moved_pins pins names from to count stand);
+  unchanged = λ no. absurd (true≢false no);
+  tree = moved_tree old new from to x d e move;
+}

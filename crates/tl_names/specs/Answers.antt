@@ -52,3 +52,8 @@ pub record Answers (old new : Tables) (count : ℕ) (command : Command (Unit {0}
       PinsStandFor new.pins (names_after reply command names) (count + length (record_made reply command names))
   pub unchanged : is_accepted reply ≡ false → new ≡ old
   pub tree : IsTree new.dirs
+
+-- the tables are those of a history
+pub record IsNamesOf {T : Type 0} (t : Tables) (calls : HistoryOf T) : Type 0 where
+  pub names : StandsFor t.dirs (names_of calls)
+  pub pins : PinsStandFor t.pins (names_of calls) (length (records_of calls))

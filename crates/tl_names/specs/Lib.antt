@@ -1,4 +1,5 @@
 pub mod Answers
+pub mod Found
 pub mod Moves
 pub mod Pins
 pub mod Standing

@@ -12,7 +12,7 @@ use Rattle.tl_model.specs.declared.reply.Entry.{Entry}
 use Rattle.tl_model.specs.declared.reply.Reply.{Reply}
 use Rattle.tl_model.specs.declared.reply.Reply.TheVariants.{Exists, NoSuch, NotFile, NotDir}
 use Rattle.tl_model.specs.Namespace.{PathOf, Node, dir, file, parent, last_part}
-use Rattle.tl_model.specs.Replies.{and_then}
+use Rattle.tl_model.specs.Replies.{and_then, or_else, refusal_of}
 use Rattle.tl_names.specs.declared.child.Child.{Child}
 use Rattle.tl_names.specs.declared.child.Child.TheVariants.{Dir, File}
 
@@ -73,6 +73,11 @@ is_dir_child (File f pinned) = false
 abbrev pub file_of : Child → Result FileId Reply
 file_of (Dir d) = Err NotFile
 file_of (File f pinned) = Ok f
+
+-- why the first path that names no file names none
+abbrev pub first_refusal : Dirs → List PathOf → Option Reply
+first_refusal dirs [] = None
+first_refusal dirs (path ∷ paths) = or_else (refusal_of (and_then (place dirs path) file_of)) (first_refusal dirs paths)
 
 -- the entry of a name in a listing
 abbrev pub entry_in : List ℕ × Child → Entry

@@ -5,10 +5,14 @@ mod child;
 mod deletes;
 mod directory;
 mod dirs;
+mod found;
 mod looks;
 mod makes;
 mod moves;
+mod names;
 mod pinning;
 mod pins;
 
 pub use child::Child;
+pub use found::Found;
+pub use names::Names;

@@ -1,6 +1,6 @@
 //! New names: of directories, and of the files that a record makes.
 
-ghost use Rattle.std.specs.Prelude.{◌≡◌, ◌+◌, ◌<◌, ◌≤◌, false, if◌then◌else◌, not, is_some, length, None, OnErr, OnSome, IfOk, IfNone};
+ghost use Rattle.std.specs.Prelude.{◌≡◌, ℕ, ◌+◌, ◌<◌, ◌≤◌, false, if◌then◌else◌, not, is_some, length, None, OnErr, OnSome, IfOk, IfNone};
 ghost use Rattle.std.specs.BTreeMap.{insert_entry};
 ghost use Rattle.std.specs.Cmp.Lexicographic.{slice_cmp};
 ghost use Rattle.std.specs.Map.{remove_entry};
@@ -8,19 +8,24 @@ ghost use Rattle.std.specs.Ordering.{nat_cmp};
 ghost use Rattle.std.specs.Str.{bytes_eq};
 ghost use Rattle.slab.specs.Slab.{with_value};
 ghost use Rattle.tl_types.specs.Same.{file_cmp, file_same};
+ghost use Rattle.tl_types.specs.declared.digest.Digest.{Digest};
+ghost use Rattle.tl_lang.specs.declared.job.JobSpecCore.{JobSpecCore};
 ghost use Rattle.tl_model.specs.Namespace.{Names, last_part};
 ghost use Rattle.tl_model.specs.Replies.{count_refusal, or_else, outputs_refusal, refusal_of};
-ghost use Rattle.tl_names.specs.Pins.{MakesFiles, pin_in};
+ghost use Rattle.tl_names.specs.Answers.{Answers, tables};
+ghost use Rattle.tl_names.specs.Pins.{MakesFiles, PinList, pin_in};
 ghost use Rattle.tl_names.specs.Standing.{StandsFor};
-ghost use Rattle.tl_names.specs.Tables.{IsKnown, IsTree, MakesDir, child_at, children_at, room_for};
+ghost use Rattle.tl_names.specs.Tables.{IsKnown, IsTree, MakesDir, child_at, children_at, first_refusal, room_for};
 
 use crate::child::Child;
 use crate::directory::Directory;
 use crate::dirs::{last_name, last_part, room_for, set_child, unset_child};
+use crate::looks::walk_to_file;
 use crate::pins::Pins;
 use slab::Slab;
 use std::alloc::Global;
-use tl_model::Reply;
+use std::slice::from_ref;
+use tl_model::{Command, Reply};
 use tl_types::{FileId, NoMemory, Path, RecordId};
 
 /// As many records as there may be.
@@ -152,5 +157,73 @@ pub fn make_files(
             remove_file(dirs, pins, d, path, file, added);
             Err(error)
         }
+    }
+}
+
+// Why the first path that names no file names none.
+fn first_refusal(dirs: &Slab<Directory>, paths: &[Path]) -> Option<Reply>
+    ensures { result ≡ first_refusal dirs.now.slots paths.now }
+{
+    for path in paths {
+        if let Err(refusal) = walk_to_file(dirs, path) {
+            return Some(refusal);
+        }
+    }
+    None
+}
+
+/// The answer to a mkdir.
+pub fn mkdir(alloc: Global, dirs: &mut Slab<Directory>, path: &Path) -> Result<Reply, NoMemory>
+    requires { IsTree dirs.old.slots }
+    ensures ok { (pins : PinList) (count : ℕ) → IfOk result (λ reply.
+        Answers (tables dirs.old.slots pins) (tables dirs.new.slots pins) count (Command.Mkdir path.now) reply) }
+    ensures err { OnErr result (dirs.new.slots ≡ dirs.old.slots) }
+{
+    match make_dir(alloc, dirs, path)? {
+        None => Ok(Reply::Fine),
+        Some(refusal) => Ok(refusal),
+    }
+}
+
+/// The answer to a put, which would be the record `next`.
+pub fn put(
+    alloc: Global,
+    dirs: &mut Slab<Directory>,
+    pins: &mut Pins,
+    path: &Path,
+    next: RecordId,
+) -> Result<Reply, NoMemory>
+    requires { IsTree dirs.old.slots }
+    ensures ok { (len : ℕ) (digest : Digest) → IfOk result (λ reply.
+        Answers (tables dirs.old.slots pins.old) (tables dirs.new.slots pins.new) next.0 (Command.Put path.now len digest tt) reply) }
+    ensures err { OnErr result ((dirs.new.slots ≡ dirs.old.slots) × (pins.new ≡ pins.old)) }
+{
+    match make_files(alloc, dirs, pins, from_ref(path), next, 0)? {
+        None => Ok(Reply::Made(next)),
+        Some(refusal) => Ok(refusal),
+    }
+}
+
+/// The answer to a job, which would be the record `next`.
+pub fn job(
+    alloc: Global,
+    dirs: &mut Slab<Directory>,
+    pins: &mut Pins,
+    inputs: &[Path],
+    outputs: &[Path],
+    next: RecordId,
+) -> Result<Reply, NoMemory>
+    requires tree { IsTree dirs.old.slots }
+    requires few { length outputs.now ≤ 255 }
+    ensures ok { (core : JobSpecCore) (prio : ℕ) → IfOk result (λ reply.
+        Answers (tables dirs.old.slots pins.old) (tables dirs.new.slots pins.new) next.0 (Command.Job core prio inputs.now outputs.now) reply) }
+    ensures err { OnErr result ((dirs.new.slots ≡ dirs.old.slots) × (pins.new ≡ pins.old)) }
+{
+    if let Some(refusal) = first_refusal(dirs, inputs) {
+        return Ok(refusal);
+    }
+    match make_files(alloc, dirs, pins, outputs, next, 0)? {
+        None => Ok(Reply::Made(next)),
+        Some(refusal) => Ok(refusal),
     }
 }

@@ -44,13 +44,7 @@ fn bytes_above(path: &Path) -> usize
 }
 
 // Whether a name and all names below it fit, where so many components and bytes are left.
-fn child_fits(
-    dirs: &Slab<Directory>,
-    name: &[u8],
-    child: Child,
-    parts: usize,
-    bytes: usize,
-) -> bool
+fn child_fits(dirs: &Slab<Directory>, name: &[u8], child: Child, parts: usize, bytes: usize) -> bool
     ensures { result ≡ child_fits dirs.now.slots parts bytes (name.now, child) }
 {
     if parts == 0 {

@@ -16,12 +16,12 @@ loop-next-init t c =
 pub returns-then-not-child_fits : goal.returns-then-not-child_fits
 returns-then-not-child_fits t c =
     next_fails (child_fits c.args.dirs.now.slots (c.args.parts - 1) (c.args.bytes - 1 - length c.args.name.now)) (c.in-Some-2.next.now, c.in-Some-2.below.now) c.loop-next.next-iterator c.next.new.self
-      (list_all (child_fits c.args.dirs.now.slots (c.args.parts - 1) (c.args.bytes - 1 - length c.args.name.now)) (children_at c.args.dirs.now.slots c.in-Dir.d))
-      (rest_more deref_pair c.loop-next.next-iterator c.next.new.self c.next.result (c.in-Some-2.next, c.in-Some-2.below) c.in-Some-2.is c.next.ensures.steps)
-      c.loop-next.invariant
-      (ap (λ name. child_fits c.args.dirs.now.slots (c.args.parts - 1) (c.args.bytes - 1 - length c.args.name.now) (name, c.in-Some-2.below.now)) (sym c.deref.ensures.value) ∙ sym c.if-not-child_fits.ensures)
+    (list_all (child_fits c.args.dirs.now.slots (c.args.parts - 1) (c.args.bytes - 1 - length c.args.name.now)) (children_at c.args.dirs.now.slots c.in-Dir.d))
+    (rest_more deref_pair c.loop-next.next-iterator c.next.new.self c.next.result (c.in-Some-2.next, c.in-Some-2.below) c.in-Some-2.is c.next.ensures.steps)
+    c.loop-next.invariant
+    (ap (λ name. child_fits c.args.dirs.now.slots (c.args.parts - 1) (c.args.bytes - 1 - length c.args.name.now) (name, c.in-Some-2.below.now)) (sym c.deref.ensures.value) ∙ sym c.if-not-child_fits.ensures)
     ∙ sym (ap (λ x. child_fits c.args.dirs.now.slots c.args.parts c.args.bytes (c.args.name.now, x)) c.in-Dir.is
-      ∙ fits_dir c.args.dirs.now.slots c.args.parts c.args.bytes c.args.name.now c.in-Dir.d c.if-parts-eq0.false c.if-name-bytes.false)
+    ∙ fits_dir c.args.dirs.now.slots c.args.parts c.args.bytes c.args.name.now c.in-Dir.d c.if-parts-eq0.false c.if-name-bytes.false)
 
 pub loop-next-preserved : goal.loop-next-preserved
 loop-next-preserved t c =
@@ -33,6 +33,6 @@ loop-next-preserved t c =
 pub returns : goal.returns
 returns t c =
     none_left (child_fits c.args.dirs.now.slots (c.args.parts - 1) (c.args.bytes - 1 - length c.args.name.now)) c.loop-next.next-iterator _
-      (rest_all deref_pair c.loop-next.next-iterator c.next.new.self c.next.result c.in-None.is c.next.ensures.steps) c.loop-next.invariant
+    (rest_all deref_pair c.loop-next.next-iterator c.next.new.self c.next.result c.in-None.is c.next.ensures.steps) c.loop-next.invariant
     ∙ sym (ap (λ x. child_fits c.args.dirs.now.slots c.args.parts c.args.bytes (c.args.name.now, x)) c.in-Dir.is
-      ∙ fits_dir c.args.dirs.now.slots c.args.parts c.args.bytes c.args.name.now c.in-Dir.d c.if-parts-eq0.false c.if-name-bytes.false)
+    ∙ fits_dir c.args.dirs.now.slots c.args.parts c.args.bytes c.args.name.now c.in-Dir.d c.if-parts-eq0.false c.if-name-bytes.false)

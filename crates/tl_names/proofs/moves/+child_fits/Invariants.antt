@@ -9,5 +9,5 @@ decreases-child_fits l = l.parts
 
 abbrev pub invariant-loop-next : goal.invariant-loop-next
 invariant-loop-next l =
-  list_all (child_fits l.dirs.slots (l.parts - 1) (l.bytes - 1 - length l.name)) (children_of l.next-iterator)
-  ≡ list_all (child_fits l.dirs.slots (l.parts - 1) (l.bytes - 1 - length l.name)) (children_at l.dirs.slots l.d)
+    list_all (child_fits l.dirs.slots (l.parts - 1) (l.bytes - 1 - length l.name)) (children_of l.next-iterator)
+    ≡ list_all (child_fits l.dirs.slots (l.parts - 1) (l.bytes - 1 - length l.name)) (children_at l.dirs.slots l.d)

@@ -9,7 +9,7 @@ overflow_add-bytes-in-loop-i c =
     let end : c.saturating_sub-i-end.result ≡ c.len.result - 1 = c.saturating_sub-i-end.ensures in
     let so_far : c.loop-i.bytes ≡ bytes_of (take c.loop-i.i c.args.path.now) = c.loop-i.invariant in
     let more : bytes_of (take (c.loop-i.i + 1) c.args.path.now) ≡ bytes_of (take c.loop-i.i c.args.path.now) + (1 + length c.part.result.now)
-        = bytes_more c.args.path.now c.loop-i.i c.part.result.now (omega arith) c.part.ensures in
+    = bytes_more c.args.path.now c.loop-i.i c.part.result.now (omega arith) c.part.ensures in
     let front : bytes_of (take (c.loop-i.i + 1) c.args.path.now) ≤ bytes_of c.args.path.now = front_bytes c.args.path.now (c.loop-i.i + 1) in
     let limit : bytes_of c.args.path.now ≤ 1024 = bytes_limit c.args.path.now c.requires in
     omega arith
