@@ -1,1 +1,6 @@
 pub mod Solves
+pub mod Refusals
+pub mod Tickets
+pub mod Permits
+pub mod Numbers
+pub mod Paths

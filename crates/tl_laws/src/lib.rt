@@ -2,6 +2,8 @@
 //! empty body.
 #![tactic(auto)]
 
+mod numbers;
 mod tables;
 
+pub use numbers::records_are_numbered;
 pub use tables::{needs_are_theirs_alone, prios_are_theirs_alone, tasks_are_theirs_alone};
