@@ -1,0 +1,15 @@
+pub mod Told
+pub mod Count
+pub mod Held
+pub mod Reading
+pub mod Carry
+pub mod Looking
+pub mod Losing
+pub mod Working
+pub mod Doing
+pub mod Taking
+pub mod Calling
+pub mod Calls
+pub mod KeptPuts
+pub mod Loading
+pub mod Facts

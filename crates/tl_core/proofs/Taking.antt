@@ -1,0 +1,288 @@
+-- The record that is next, and what stands for its inputs.
+use Rattle.std.proofs.Common.{◌≡◌, ℕ, zero, suc, ◌-◌, ◌<◌, ◌≤◌, Bool, true, false, cond, ◌&&◌, ◌||◌, if◌then◌else◌, List, [], ◌∷◌, ◌++◌, length, filter, slice_get, Option, Some, None, is_some, option_map, refl, sym, ap, ◌∙◌, subst, arith}
+use Rattle.std.specs.List.{AllByRecursion, list_all}
+use Rattle.std.proofs.lemmas.Bool.{and_from, and_parts, lt-ltb}
+use Rattle.tl_types.specs.Same.{actor_same, record_same-Decides, file_same, file_same-Decides}
+use Rattle.tl_types.specs.declared.actor.Actor.{Actor}
+use Rattle.tl_types.specs.declared.file_id.FileId.{FileId}
+use Rattle.tl_types.specs.declared.record_id.RecordId.{RecordId}
+use Rattle.tl_types.specs.declared.worker_id.WorkerId.{WorkerId}
+use Rattle.tl_model.specs.declared.command.Command.{Command}
+use Rattle.tl_model.specs.declared.command.Command.TheVariants.{Put, Job, Read, Delete, Mkdir, Rename, Pin, Unpin, List as list, Stat, Free as free}
+use Rattle.tl_model.specs.declared.reply.Reply.{Reply}
+use Rattle.tl_model.specs.declared.reply.Reply.TheVariants.{Made, Fine, Opened, Listed, Stated, Exists, NoSuch, NotFile, NotDir, NotEmpty, TooDeep, IntoItself, TooMany}
+use Rattle.tl_model.specs.declared.event.Act.{Act}
+use Rattle.tl_model.specs.declared.event.Act.TheVariants.{Call, Served, Shut, Claim, Done, Back, Lose, Free, Drop, Load, Save, Saved, Unsave, Collect}
+use Rattle.tl_model.specs.declared.event.Event.{Event}
+use Rattle.tl_model.specs.declared.header.Header.{Header}
+use Rattle.tl_model.specs.declared.record.Record.{Record}
+use Rattle.tl_model.specs.declared.record.Record.TheVariants as kind
+use Rattle.tl_model.specs.Past.{Past, events_with, without_tickets}
+use Rattle.tl_model.specs.Tables.{Table, downward, answer_at, first_by, better}
+use Rattle.tl_model.specs.History.{records, record_at, id_of, is_job, inputs_of}
+use Rattle.tl_model.specs.Actors.{OpenClaim, open_claim}
+use Rattle.tl_model.specs.Residency.{is_resident, is_available, all_available}
+use Rattle.tl_model.specs.Plan.{has_id, task_among, is_task, can_run, ready, goes_before, next}
+use Rattle.tl_model.specs.Rules.{lawful_judge, may_claim, is_record}
+use Rattle.tl_laws.specs.Permits.{holds-one}
+use Rattle.tl_laws.specs.Numbers.{Numbered}
+use Rattle.tl_core.specs.declared.resident.Resident.{Resident}
+use Rattle.tl_core.specs.declared.work.Feed.{Feed}
+use Rattle.tl_core.specs.declared.work.Feed.TheVariants.{Have, Kept}
+use Rattle.tl_core.specs.declared.work.Work.{Work}
+use Rattle.tl_core.specs.Residents.{Residents, found, block_of}
+use Rattle.tl_core.specs.Puts.{KeptPut, kept_put, kept_by, kept_after, as_saved}
+use Rattle.tl_core.specs.Room.{under_way}
+use Rattle.tl_core.specs.State.{State, Stands, IsSound, IsJobAt, undropped_judge}
+use Rattle.tl_core.specs.Taken.{IsFedBy, AreFedBy, AreSupplied, Supplies, IsNext, IsTaken, IsFed, AreFed, Claimed}
+use Rattle.tl_core.specs.Claims.{incarnation}
+use Rattle.tl_core.specs.declared.feeds.Taken.{Taken}
+use Rattle.tl_core.proofs.Told.{plain-told}
+use Rattle.tl_core.proofs.Count.{under_way-few}
+use Rattle.tl_core.proofs.Looking.{resident-found, saved_by}
+
+-- ---- a put's file is its output 0
+
+kept-if : {T : Type 0} (f : FileId) (made : RecordId) (put : KeptPut T) (before : Option (KeptPut T)) (b : Bool) (it : KeptPut T) → file_same f (record { rec = made; out = 0 }) ≡ b →
+    (if b then Some put else before) ≡ Some it → (before ≡ Some it → f.out ≡ 0) → f.out ≡ 0
+kept-if f made put before true it e is h = ap (λ (g : FileId). g.out) ((file_same-Decides f (record { rec = made; out = 0 })).0 e)
+kept-if f made put before false it e is h = h is
+
+kept-by-out : {T : Type 0} (reply : Reply) (command : Command T) (f : FileId) (before : Option (KeptPut T)) (it : KeptPut T) →
+    kept_by reply command f before ≡ Some it → (before ≡ Some it → f.out ≡ 0) → f.out ≡ 0
+kept-by-out (Made made) (Put path len digest ticket) f before it is h =
+    kept-if f made (record { ticket = ticket; len = len; digest = digest }) before (file_same f (record { rec = made; out = 0 })) it refl is h
+kept-by-out (Made made) (Job core prio inputs outputs) f before it is h = h is
+kept-by-out (Made made) (Read path prio form) f before it is h = h is
+kept-by-out (Made made) (Delete path) f before it is h = h is
+kept-by-out (Made made) (Mkdir path) f before it is h = h is
+kept-by-out (Made made) (Rename from to) f before it is h = h is
+kept-by-out (Made made) (Pin path) f before it is h = h is
+kept-by-out (Made made) (Unpin path) f before it is h = h is
+kept-by-out (Made made) (list path) f before it is h = h is
+kept-by-out (Made made) (Stat path) f before it is h = h is
+kept-by-out (Made made) (free path) f before it is h = h is
+kept-by-out Fine command f before it is h = h is
+kept-by-out (Opened g) command f before it is h = h is
+kept-by-out (Listed entries) command f before it is h = h is
+kept-by-out (Stated status) command f before it is h = h is
+kept-by-out Exists command f before it is h = h is
+kept-by-out NoSuch command f before it is h = h is
+kept-by-out NotFile command f before it is h = h is
+kept-by-out NotDir command f before it is h = h is
+kept-by-out NotEmpty command f before it is h = h is
+kept-by-out TooDeep command f before it is h = h is
+kept-by-out IntoItself command f before it is h = h is
+kept-by-out TooMany command f before it is h = h is
+
+kept-after-out : {T : Type 0} (act : Act T) (f : FileId) (before : Option (KeptPut T)) (it : KeptPut T) →
+    kept_after act f before ≡ Some it → (before ≡ Some it → f.out ≡ 0) → f.out ≡ 0
+kept-after-out (Call command reply) f before it is h = kept-by-out reply command f before it is h
+kept-after-out (Served file digest) f before it is h = h is
+kept-after-out (Shut file) f before it is h = h is
+kept-after-out (Claim worker made) f before it is h = h is
+kept-after-out (Done worker made) f before it is h = h is
+kept-after-out (Back made) f before it is h = h is
+kept-after-out (Lose worker) f before it is h = h is
+kept-after-out (Free file) f before it is h = h is
+kept-after-out (Drop worker file) f before it is h = h is
+kept-after-out (Load worker file) f before it is h = h is
+kept-after-out (Save file) f before it is h = h is
+kept-after-out (Saved file size digest) f before it is h = h is
+kept-after-out (Unsave file) f before it is h = h is
+kept-after-out (Collect made) f before it is h = h is
+
+pub kept-out : {T : Type 0} (events : List (Event T)) (f : FileId) (it : KeptPut T) → kept_put events f ≡ Some it → f.out ≡ 0
+kept-out [] f it is = absurd (cc)
+kept-out (e ∷ events) f it is = kept-after-out e.act f (kept_put events f) it is (kept-out events f it)
+
+-- ---- feeds
+
+pub fed-more : {T : Type 0} (content : T → List ℕ) (events : List (Event T)) (residents : Residents) (fs : List FileId) (feeds : List (Feed T)) (f : FileId) (feed : Feed T) →
+    AreFedBy content events residents fs feeds → IsFedBy content events residents f feed → AreFedBy content events residents (fs ++ f ∷ []) (feeds ++ feed ∷ [])
+fed-more content events residents [] [] f feed all one = (one, tt)
+fed-more content events residents (g ∷ fs) (x ∷ feeds) f feed all one = (all.0, fed-more content events residents fs feeds f feed all.1 one)
+fed-more content events residents [] (x ∷ feeds) f feed all one = absurd all
+fed-more content events residents (g ∷ fs) [] f feed all one = absurd all
+
+pub all-get : {A : Type 0} (P : A → Type 0) (xs : List A) (i : ℕ) (x : A) → AllByRecursion P xs → slice_get xs i ≡ Some x → P x
+all-get P [] i x all is = absurd (cc)
+all-get P (y ∷ ys) zero x all is = let same : y ≡ x = cc in subst P same all.0
+all-get P (y ∷ ys) (suc i) x all is = all-get P ys i x all.1 is
+
+pub supplied : {T : Type 0} (events : List (Event T)) (residents : Residents) (files : List FileId) → Supplies events residents →
+    all_available (without_tickets events) files ≡ true → AreSupplied events residents files
+supplied events residents [] s all = tt
+supplied events residents (f ∷ files) s all =
+    let parts = and_parts (is_available (without_tickets events) f) (list_all (is_available (without_tickets events)) files) all in
+    (s f parts.0, supplied events residents files s parts.1)
+
+some-saved : {T : Type 0} (o : Option (KeptPut T)) → is_some (option_map as_saved o) ≡ is_some o
+some-saved None = refl
+some-saved (Some put) = refl
+
+-- in a cluster what is available is held, or a put made it
+pub stands-supplies : {T : Type 0} (tells : Bool) (content : T → List ℕ) (header : Header) (events : List (Event T)) (residents : Residents) (spare : ℕ) →
+    Stands tells content header events residents spare → Supplies events residents
+stands-supplies tells content header events residents spare s = λ f available.
+    ap (λ b. b || is_some (kept_put events f)) (sym (resident-found tells content header events residents spare f (found f residents) s refl))
+    ∙ ap (λ b. is_resident (without_tickets events) f || b) (sym (ap is_some (s.saved f) ∙ some-saved (kept_put events f))) ∙ available
+
+-- ---- the record that is next
+
+-- something of a list
+abbrev pub IsAmong : {A : Type 0} → List A → A → Type 0
+IsAmong xs x = (i : ℕ) × (slice_get xs i ≡ Some x)
+
+first-step : (before : Record → Record → Bool) (x : Record) (rs : List Record) (o : Option Record) (r : Record) → first_by before rs ≡ o →
+    ((s : Record) → first_by before rs ≡ Some s → IsAmong rs s) → Some (better before x o) ≡ Some r → IsAmong (x ∷ rs) r
+first-step before x rs None r e h is = (0, is)
+first-step before x rs (Some s) r e h is =
+    let among = h s e in
+    elim (before s x) as (λ b. (Some (if b then s else x) ≡ Some r) → IsAmong (x ∷ rs) r) [ true ↦ λ k. (suc among.0, among.1 ∙ k) | false ↦ λ k. (0, k) ] is
+
+first-among : (before : Record → Record → Bool) (rs : List Record) (r : Record) → first_by before rs ≡ Some r → IsAmong rs r
+first-among before [] r is = absurd (cc)
+first-among before (x ∷ rs) r is = first-step before x rs (first_by before rs) r refl (first-among before rs) is
+
+filter-step : (p : Record → Bool) (x : Record) (xs : List Record) (b : Bool) (i : ℕ) (r : Record) → p x ≡ b →
+    ((i : ℕ) → slice_get (filter p xs) i ≡ Some r → (p r ≡ true) × IsAmong xs r) →
+    slice_get (cond b (x ∷ filter p xs) (filter p xs)) i ≡ Some r → (p r ≡ true) × IsAmong (x ∷ xs) r
+filter-step p x xs true zero r e h is = let same : x ≡ r = cc in (ap p (sym same) ∙ e, (0, is))
+filter-step p x xs true (suc i) r e h is = let k = h i is in (k.0, (suc k.1.0, k.1.1))
+filter-step p x xs false i r e h is = let k = h i is in (k.0, (suc k.1.0, k.1.1))
+
+filter-among : (p : Record → Bool) (xs : List Record) (i : ℕ) (r : Record) → slice_get (filter p xs) i ≡ Some r → (p r ≡ true) × IsAmong xs r
+filter-among p [] i r is = absurd (cc)
+filter-among p (x ∷ xs) i r is = filter-step p x xs (p x) i r refl (λ j k. filter-among p xs j r k) is
+
+-- a record of the table that passes the test, and whose answer is yes
+abbrev pub Answers : (Table Record Bool → Record → Bool) → (Record → Bool) → List Record → Type 0
+Answers answer test rs = (r : Record) × IsAmong rs r × (test r ≡ true) × ((later : Table Record Bool) × (answer later r ≡ true))
+
+answer-step : (answer : Table Record Bool → Record → Bool) (test : Record → Bool) (x : Record) (rs : List Record) (b : Bool) → test x ≡ b →
+    (answer_at test false (downward answer rs) ≡ true → Answers answer test rs) →
+    (if b then answer (downward answer rs) x else answer_at test false (downward answer rs)) ≡ true → Answers answer test (x ∷ rs)
+answer-step answer test x rs true e h is = (x, (0, refl), e, (downward answer rs, is))
+answer-step answer test x rs false e h is = let k = h is in (k.0, (suc k.1.0, k.1.1), k.2, k.3)
+
+answer-among : (answer : Table Record Bool → Record → Bool) (test : Record → Bool) (rs : List Record) → answer_at test false (downward answer rs) ≡ true → Answers answer test rs
+answer-among answer test [] is = absurd (cc)
+answer-among answer test (x ∷ rs) is = answer-step answer test x rs (test x) refl (answer-among answer test rs) is
+
+-- the record of a number stands at its place
+at-place : (past : Past) (r : Record) → Numbered (records past) → IsAmong (records past) r → record_at past (id_of r) ≡ Some r
+at-place past r n among = ap (λ (id : RecordId). slice_get (records past) id.0) (n among.0 r among.1) ∙ among.1
+
+pub task-is-job : (past : Past) (r : Record) → Numbered (records past) → IsAmong (records past) r → is_task past (id_of r) ≡ true → is_job r ≡ true
+task-is-job past r n among task =
+    let found = answer-among (task_among past) (has_id (id_of r)) (records past) task in
+    let same_id : id_of r ≡ id_of found.0 = (record_same-Decides (id_of r) (id_of found.0)).0 found.2 in
+    let both : Some r ≡ Some found.0 = sym (at-place past r n among) ∙ ap (record_at past) same_id ∙ at-place past found.0 n found.1 in
+    let same : r ≡ found.0 = cc in
+    ap is_job same ∙ (and_parts (is_job found.0) _ found.3.1).0
+
+next-of : (past : Past) (made : RecordId) (o : Option Record) → first_by (goes_before past) (ready past) ≡ o → option_map id_of o ≡ Some made →
+    Numbered (records past) → IsNext past made
+next-of past made None e is n = absurd (cc)
+next-of past made (Some r) e is n =
+    let id : id_of r ≡ made = cc in
+    let ready_at = first-among (goes_before past) (ready past) r e in
+    let kept = filter-among (can_run past) (records past) ready_at.0 r ready_at.1 in
+    let run = and_parts (is_task past (id_of r) && _) (all_available past (inputs_of r)) kept.0 in
+    let task = (and_parts (is_task past (id_of r)) _ run.0).0 in
+    record {
+      it = r;
+      at = ap (record_at past) (sym id) ∙ at-place past r n kept.1;
+      id = id;
+      job = task-is-job past r n kept.1 task;
+      fed = run.1;
+    }
+
+pub next-is : (past : Past) (made : RecordId) → next past ≡ Some made → Numbered (records past) → IsNext past made
+next-is past made is n = next-of past made (first_by (goes_before past) (ready past)) refl is n
+
+-- ---- the turn
+
+open-after : (b : Bool) (mine : OpenClaim) (o : Option OpenClaim) (claim : OpenClaim) (past : Past) → (if b then Some mine else o) ≡ Some claim →
+    IsJobAt past mine.made → (o ≡ Some claim → IsJobAt past claim.made) → IsJobAt past claim.made
+open-after true mine o claim past is own other = let same : mine ≡ claim = cc in subst (λ (c : OpenClaim). IsJobAt past c.made) same own
+open-after false mine o claim past is own other = other is
+
+pub claimed : {T : Type 0} (tells : Bool) (content : T → List ℕ) (header : Header) (events : List (Event T)) (residents : Residents) (spare room : ℕ)
+    (actor : Actor) (worker : WorkerId) (made : RecordId) → Stands tells content header events residents spare → Numbered (records (without_tickets events)) →
+    worker.0 < header.workers → may_claim (without_tickets events) actor ≡ true → next (without_tickets events) ≡ Some made → 50 ≤ room →
+    Stands tells content header (record { actor = actor; act = Claim worker made } ∷ events) residents (room - 1)
+claimed tells content header events residents spare room actor worker made s n known idle is enough =
+    let past : Past = without_tickets events in
+    let it = next-is past made is n in
+    let fits : is_record (next past) made ≡ true = ap (λ o. is_record o made) is ∙ (record_same-Decides made made).1 refl in
+    let may : (may_claim past actor && is_record (next past) made) ≡ true = and_from _ _ idle fits in
+    let told_may : (may_claim (without_tickets (events_with content events)) actor && is_record (next (without_tickets (events_with content events))) made) ≡ true =
+    subst (λ (p : Past). (may_claim p actor && is_record (next p) made) ≡ true) (sym (plain-told content events)) may in
+    let told_parts = and_parts (may_claim (without_tickets (events_with content events)) actor) (is_record (next (without_tickets (events_with content events))) made) told_may in
+    let at_worker = lt-ltb worker.0 header.workers known in
+    record {
+      lawful = holds-one lawful_judge header events (record { actor = actor; act = Claim worker made }) s.lawful (and_from _ _ (and_from _ _ at_worker idle) fits) refl;
+      told = λ tell. holds-one (undropped_judge header) header (events_with content events) (record { actor = actor; act = Claim worker made }) (s.told tell)
+          (and_from _ _ (and_from _ _ at_worker told_parts.0) told_parts.1) refl;
+      places = s.places;
+      blocks = s.blocks;
+      sound = s.sound;
+      narrow = s.narrow;
+      saved = s.saved;
+      puts = s.puts;
+      jobs = λ a claim e. open-after (actor_same a actor) (record { worker = worker; made = made }) (open_claim past a) claim past e (it.it, it.at, it.job) (s.jobs a claim);
+      room = let few : under_way (record { actor = actor; act = Claim worker made } ∷ past) ≤ 48 = under_way-few (record { actor = actor; act = Claim worker made } ∷ past) in omega arith;
+    }
+
+some-held : (o : Option Resident) → is_some o ≡ is_some (option_map block_of o)
+some-held None = refl
+some-held (Some r) = refl
+
+fed_is : {T : Type 0} (tells : Bool) (content : T → List ℕ) (header : Header) (events : List (Event T)) (residents : Residents) (spare : ℕ)
+    (f : FileId) (feed : Feed T) → Stands tells content header events residents spare → IsFedBy content events residents f feed →
+    IsFed tells content (record { header = header; events = events; residents = residents }) f feed
+fed_is tells content header events residents spare f (Have block) s fed =
+    (resident-found tells content header events residents spare f (found f residents) s refl ∙ some-held (found f residents) ∙ ap is_some fed, fed)
+fed_is tells content header events residents spare f (Kept g saved) s fed = (
+  fed.0,
+  resident-found tells content header events residents spare f None s fed.1,
+  saved_by tells content header events residents spare f fed.2.0 saved s fed.2.1 fed.2.2,
+)
+
+pub feds : {T : Type 0} (tells : Bool) (content : T → List ℕ) (header : Header) (events : List (Event T)) (residents : Residents) (spare : ℕ)
+    (fs : List FileId) (feeds : List (Feed T)) → Stands tells content header events residents spare → AreFedBy content events residents fs feeds →
+    AreFed tells content (record { header = header; events = events; residents = residents }) fs feeds
+feds tells content header events residents spare [] [] s all = tt
+feds tells content header events residents spare (f ∷ fs) (feed ∷ feeds) s all =
+    (fed_is tells content header events residents spare f feed s all.0, feds tells content header events residents spare fs feeds s all.1)
+feds tells content header events residents spare [] (feed ∷ feeds) s all = absurd all
+feds tells content header events residents spare (f ∷ fs) [] s all = absurd all
+
+sound-of : {T : Type 0} (tells : Bool) (content : T → List ℕ) (header : Header) (events : List (Event T)) (residents : Residents) (spare : ℕ)
+    (made : RecordId) (r : Record) → Stands tells content header events residents spare → record_at (without_tickets events) made ≡ Some r → IsSound r
+sound-of tells content header events residents spare made r s at = all-get IsSound (records (without_tickets events)) made.0 r s.sound at
+
+-- what a claim answers
+pub claimed-work : {T : Type 0} (tells : Bool) (content : T → List ℕ) (header : Header) (events : List (Event T)) (residents : Residents) (spare : ℕ)
+    (old new : State T) (actor : Actor) (worker : WorkerId) (taken : Taken T) (work : Work T) →
+    record { header = header; events = events; residents = residents } ≡ old →
+    new ≡ record { header = header; events = record { actor = actor; act = Claim worker taken.rec } ∷ events; residents = residents } →
+    Stands tells content header events residents spare → next (without_tickets events) ≡ Some taken.rec → IsTaken content events residents taken →
+    work ≡ record { actor = actor; worker = worker; incarnation = incarnation events worker; place = length events; rec = taken.rec; core = taken.core; inputs = taken.inputs } →
+    Claimed tells content old new actor worker (Some work)
+claimed-work {T} tells content header events residents spare old new actor worker taken work old_is new_is s is taken_is work_is =
+    let P : State T → Type 0 = λ o. Claimed tells content o new actor worker (Some work) in
+    let it : Work T = record { actor = actor; worker = worker; incarnation = incarnation events worker; place = length events; rec = taken.rec; core = taken.core; inputs = taken.inputs } in
+    let Q : Work T → Type 0 = λ w. Claimed tells content (record { header = header; events = events; residents = residents }) new actor worker (Some w) in
+    let sound = sound-of tells content header events residents spare taken.rec (kind.Job taken.rec taken.core taken_is.0 taken_is.1 taken_is.2) s taken_is.3 in
+    subst P old_is (subst Q (sym work_is) (
+      is,
+      new_is,
+      refl,
+      refl,
+      refl,
+      refl,
+      (taken_is.0, taken_is.1, taken_is.2, taken_is.3, sound.0, sound.1, feds tells content header events residents spare taken_is.1 taken.inputs.items s taken_is.4),
+    ))

@@ -1,0 +1,10 @@
+pub mod Residents
+pub mod Puts
+pub mod Room
+pub mod State
+pub mod Answers
+pub mod Claims
+pub mod Brought
+pub mod Done
+pub mod Taken
+pub mod Called
