@@ -4,3 +4,4 @@ pub mod Tickets
 pub mod Permits
 pub mod Numbers
 pub mod Paths
+pub mod Order
