@@ -111,23 +111,23 @@ fn a_plan(rt: HostRuntime) -> Result<(), Fail> {
     let seen = Seen::new(rt.alloc(), &events)?;
     let files = files_of(rt.alloc(), &seen)?;
     assert_eq!(rt; files.len(), 3);
-    let tasks = Tasks::new(rt.alloc(), seen)?;
+    let plan = Plan::new(rt.alloc(), Tasks::new(rt.alloc(), seen)?)?;
+    assert_eq!(rt; plan.next(), Some(RecordId(1)));
+    for (made, prio) in [(0, 0), (1, 5), (2, 5)] {
+        assert_eq!(rt; plan.prio(RecordId(made)), prio, "{made}");
+    }
+    let tasks = plan.tasks();
     for (made, is_task, is_ready) in [(0, false, false), (1, true, true), (2, true, false)] {
-        assert_eq!(rt; Facts::is_task(&tasks, RecordId(made)), is_task, "{made}");
-        assert_eq!(rt; Facts::is_ready(&tasks, RecordId(made)), is_ready, "{made}");
+        assert_eq!(rt; Facts::is_task(tasks, RecordId(made)), is_task, "{made}");
+        assert_eq!(rt; Facts::is_ready(tasks, RecordId(made)), is_ready, "{made}");
     }
     for (made, is_wanted) in [(0, true), (1, true), (2, false)] {
         assert_eq!(rt; tasks.is_wanted(output(made)), is_wanted, "{made}");
     }
-    let needs = Needs::new(rt.alloc(), &tasks)?;
+    let needs = Needs::new(rt.alloc(), tasks)?;
     assert_eq!(rt; needs.garbage(), Some(RecordId(0)));
     for (made, is_needed) in [(0, false), (1, true), (2, true)] {
         assert_eq!(rt; needs.is_needed(RecordId(made)), is_needed, "{made}");
-    }
-    let plan = Plan::new(rt.alloc(), tasks)?;
-    assert_eq!(rt; plan.next(), Some(RecordId(1)));
-    for (made, prio) in [(0, 0), (1, 5), (2, 5)] {
-        assert_eq!(rt; plan.prio(RecordId(made)), prio, "{made}");
     }
     Ok(())
 }

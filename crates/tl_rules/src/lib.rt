@@ -1,6 +1,7 @@
 //! The rules: which event may come after the events of a journal, and what must come.
 #![tactic(auto)]
 
+mod fault;
 mod follows;
 mod judge;
 mod lawful;
@@ -11,6 +12,7 @@ mod same;
 #[cfg(test)]
 mod tests;
 
+pub use fault::{fault_of, is_quiet};
 pub use judge::Judge;
 pub use lawful::Lawful;
 pub use owed::{Owed, pays, what_is_owed};

@@ -1,4 +1,4 @@
-use crate::{Lawful, Owed, broken, is_permitted, pays, what_is_owed};
+use crate::{Lawful, Owed, broken, fault_of, is_permitted, is_quiet, pays, what_is_owed};
 use std::test::Fail;
 use tl_model::{Act, Command, Event, Form, Header, Reply};
 use tl_types::{Actor, Digest, FileId, Path, Prio, RecordId, WorkerId};
@@ -71,6 +71,12 @@ fn refusals(rt: HostRuntime) -> Result<(), Fail> {
     for n in 0..events.len() {
         let rule = broken(rt.alloc(), &Lawful, &HEADER, &events[..n], &events[n])?;
         assert_eq!(rt; rule, None, "event {n}");
+    }
+    for (n, fault) in [(0, None), (1, Some((1, 15))), (6, Some((6, 15))), (8, None)] {
+        let found = fault_of(rt.alloc(), &Lawful, &HEADER, &events[..n])?;
+        assert_eq!(rt; found, fault, "{n} events");
+        let quiet = is_quiet(rt.alloc(), &Lawful, &events[..n])?;
+        assert_eq!(rt; quiet, fault.is_none(), "{n} events");
     }
     let wrong = [
         (0, by(0, Act::Shut(FILE)), 3),

@@ -13,7 +13,11 @@ use tl_model::Entry;
 use tl_types::{Items, NoMemory};
 
 /// The names in the directory, ascending by their bytes.
-pub fn listing(alloc: Global, names: &[Name], path: &[Items<u8>]) -> Result<Vec<Entry>, NoMemory>
+pub(crate) fn listing(
+    alloc: Global,
+    names: &[Name],
+    path: &[Items<u8>],
+) -> Result<Vec<Entry>, NoMemory>
     ensures { IfOk result (λ entries. entries.items ≡ listing (names_in names.now) path.now) }
 {
     let mut entries = Vec::new(alloc);

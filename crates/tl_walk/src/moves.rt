@@ -21,7 +21,7 @@ const PARTS_LIMIT: usize = 16;
 const SPELLING_LIMIT: u128 = 1_024;
 
 /// Why the first path can't be moved to the second, if there is a reason.
-pub fn rename_refusal(
+pub(crate) fn rename_refusal(
     alloc: Global,
     names: &[Name],
     from: &[Items<u8>],

@@ -14,7 +14,7 @@ use tl_types::{NoMemory, Path, RecordId};
 /// Why the first output that can't be made can't, as if the earlier ones had been made, if there is
 /// one. It is the same whichever record makes them.
 #[tactic(auto, using(crate::proofs::Shapes::for_any_record))]
-pub fn outputs_refusal(
+pub(crate) fn outputs_refusal(
     alloc: Global,
     names: &[Name],
     outputs: &[Path],

@@ -110,15 +110,15 @@ pub fn reply_to<T>(
     }
 }
 
-/// The reply to a put at the path, after so many records.
-pub fn reply_to_put(names: &[Name], count: usize, path: &[Items<u8>]) -> Reply
+// The reply to a put at the path, after so many records.
+fn reply_to_put(names: &[Name], count: usize, path: &[Items<u8>]) -> Reply
     ensures { result ≡ unless (or_else (new_refusal (names_in names.now) path.now) (count_refusal count)) (Reply.Made (record { 0 = count })) }
 {
     made_unless(new_refusal(names, path), count)
 }
 
-/// The reply to a job from these inputs to these outputs, after so many records.
-pub fn reply_to_job(
+// The reply to a job from these inputs to these outputs, after so many records.
+fn reply_to_job(
     alloc: Global,
     names: &[Name],
     count: usize,
@@ -171,8 +171,8 @@ fn file_refusal(names: &[Name], path: &[Items<u8>]) -> Option<Reply>
     }
 }
 
-/// The reply to a read of the path, as `reply` gives it.
-pub fn reply_to_read(names: &[Name], path: &[Items<u8>]) -> Option<Reply>
+// The reply to a read of the path, as `reply` gives it.
+fn reply_to_read(names: &[Name], path: &[Items<u8>]) -> Option<Reply>
     ensures { Says (opened (walk_to_file (names_in names.now) path.now)) result }
 {
     match walk_to_file(names, path) {
@@ -181,8 +181,8 @@ pub fn reply_to_read(names: &[Name], path: &[Items<u8>]) -> Option<Reply>
     }
 }
 
-/// The reply to a list of the path.
-pub fn reply_to_list(alloc: Global, names: &[Name], path: &[Items<u8>]) -> Result<Reply, NoMemory>
+// The reply to a list of the path.
+fn reply_to_list(alloc: Global, names: &[Name], path: &[Items<u8>]) -> Result<Reply, NoMemory>
     ensures { IfOk result (λ reply. reply ≡ reply_to_list (names_in names.now) path.now (walk (names_in names.now) path.now)) }
 {
     match walk(names, path) {
@@ -192,8 +192,8 @@ pub fn reply_to_list(alloc: Global, names: &[Name], path: &[Items<u8>]) -> Resul
     }
 }
 
-/// The reply to a question what the path names, as `reply` gives it.
-pub fn reply_to_stat(names: &[Name], path: &[Items<u8>]) -> Option<Reply>
+// The reply to a question what the path names, as `reply` gives it.
+fn reply_to_stat(names: &[Name], path: &[Items<u8>]) -> Option<Reply>
     ensures { Says (reply_to_stat (names_in names.now) path.now (walk (names_in names.now) path.now)) result }
 {
     match walk(names, path) {

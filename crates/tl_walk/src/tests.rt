@@ -1,4 +1,7 @@
-use crate::{Accepted, inputs_refusal, names_of, record_count, records_of, reply};
+use crate::{
+    Accepted, inputs_refusal, names_of, parts_of, record_count, records_of, reply, reply_of_few,
+    reply_to,
+};
 use std::test::Fail;
 use tl_model::{Act, Command, Event, Reply};
 use tl_types::{Actor, Digest, Path, RecordId};
@@ -88,5 +91,29 @@ fn replies(rt: HostRuntime) -> Result<(), Fail> {
     };
     let said = reply(rt.alloc(), &events, &moved)?;
     assert!(rt; matches!(said, Some(Reply::Fine)));
+    Ok(())
+}
+
+#[test]
+fn replies_on_given_names(rt: HostRuntime) -> Result<(), Fail> {
+    let events = two_calls(&rt)?;
+    let names = names_of(rt.alloc(), &events)?;
+    let path = path_of(&rt, "e")?;
+    let parts = parts_of(rt.alloc(), &path)?;
+    assert_eq!(rt; parts.len(), 1);
+    assert_eq!(rt; parts[0].as_slice(), b"e".as_slice());
+    let put: Command<()> = Command::Put {
+        path,
+        len: 0,
+        digest: Digest([0; 32]),
+        ticket: (),
+    };
+    for (count, is_full) in [(1_048_575, false), (1_048_576, true)] {
+        let said = reply_to(rt.alloc(), &names, count, &put)?.ok_or("a reply")?;
+        assert_eq!(rt; matches!(said, Reply::TooMany), is_full, "{count}");
+    }
+    let none: [Event<()>; 0] = [];
+    let said = reply_of_few(rt.alloc(), &none, &put)?;
+    assert!(rt; matches!(said, Reply::Made(RecordId(0))));
     Ok(())
 }
