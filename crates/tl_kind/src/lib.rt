@@ -22,3 +22,6 @@ pub use kinds::check;
 pub use lang_error::{LangError, LangErrorKind};
 pub use parsing::parse;
 pub use printing::print;
+
+#[cfg(test)]
+mod tests;
