@@ -17,7 +17,7 @@ use Rattle.tl_kind.specs.declared.word.Binding.TheVariants as binding
 use Rattle.tl_kind.specs.Written.{Part, an_expr, a_name, a_number, a_quote, Written, quote, signed, variable, with_parts, written}
 use Rattle.tl_kind.specs.Refusals.{Head, inner, sort_of, wants, may_end, expr}
 
-one_form : {A : Type 0} → One → A → Form A
+unfoldable pub one_form : {A : Type 0} → One → A → Form A
 one_form one.Len a = form.Len a
 one_form one.Num a = form.Num a
 one_form one.Str a = form.Str a
@@ -25,7 +25,7 @@ one_form one.Lines a = form.Lines a
 one_form one.Count a = form.Count a
 one_form one.Sort a = form.Sort a
 
-two_form : {A : Type 0} → Two → A → A → Form A
+unfoldable pub two_form : {A : Type 0} → Two → A → A → Form A
 two_form two.Cat a b = form.Cat a b
 two_form two.Eq a b = form.Eq a b
 two_form two.Has a b = form.Has a b
@@ -41,11 +41,11 @@ two_form two.Join a b = form.Join a b
 two_form two.Append a b = form.Append a b
 two_form two.At a b = form.At a b
 
-three_form : {A : Type 0} → Three → A → A → A → Form A
+unfoldable pub three_form : {A : Type 0} → Three → A → A → A → Form A
 three_form three.Sub a b c = form.Sub a b c
 three_form three.If a b c = form.If a b c
 
-binding_form : {A : Type 0} → Binding → List ℕ → A → A → Form A
+unfoldable pub binding_form : {A : Type 0} → Binding → List ℕ → A → A → Form A
 binding_form binding.Let x a b = form.Let x a b
 binding_form binding.Each x a b = form.Each x a b
 binding_form binding.Keep x a b = form.Keep x a b
@@ -175,7 +175,7 @@ list_takes_parts : {A : Type 0} (count : ℕ) (es : List A) → count + length e
 list_takes_parts count [] le = refl
 list_takes_parts count (e ∷ es) le = (ap (λ (b : Bool). if b then Some expr else None) (lt-ltb count 16 (omega arith)), list_takes_parts (suc count) es (omega arith))
 
-length-list : {A : Type 0} (es : List A) → length (map an_expr es) ≡ length es
+pub length-list : {A : Type 0} (es : List A) → length (map an_expr es) ≡ length es
 length-list [] = refl
 length-list (e ∷ es) = ap suc (length-list es)
 

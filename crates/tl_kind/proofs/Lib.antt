@@ -9,3 +9,6 @@ pub mod Inverse
 pub mod Readings
 pub mod Unique
 pub mod Never
+pub mod Moved
+pub mod Completed
+pub mod FirstBad

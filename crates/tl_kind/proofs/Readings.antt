@@ -48,7 +48,7 @@ ends_expr (signed z) rest f = f.digit
 ends_expr (variable x) rest f = inr f.letter
 ends_expr (with_parts w parts) rest f = tt
 
-ends_part : (p : Part Expr) (rest : List ℕ) → Follows rest → EndsPart p rest
+pub ends_part : (p : Part Expr) (rest : List ℕ) → Follows rest → EndsPart p rest
 ends_part (an_expr e) rest f = ends_expr (written (out-Expr e)) rest f
 ends_part (a_name x) rest f = inr f.letter
 ends_part (a_number n) rest f = f.digit
@@ -73,7 +73,7 @@ signed_fits : (text rest : List ℕ) (z : ℤ) → text ≡ signed_decimal z ++ 
 signed_fits text rest (pos n) spelled e whole = record { spelled = spelled; fits = record { sfits = ltb-true n (2 ^ 63) e }; whole = whole }
 signed_fits text rest (negsuc n) spelled e whole = record { spelled = spelled; fits = record { sfits = ltb-true n (2 ^ 63) e }; whole = whole }
 
-parts_follow : (parts : List (Part (List ℕ))) (rest : List ℕ) → Follows (parts_text parts ++ rest)
+pub parts_follow : (parts : List (Part (List ℕ))) (rest : List ℕ) → Follows (parts_text parts ++ rest)
 parts_follow [] rest = follows_end rest
 parts_follow (p ∷ parts) rest = follows_space _
 
@@ -136,8 +136,8 @@ other_letter b k sure lacks = false_from_ne_true (b == k) (λ e. let same : is_l
 letter_no_digit : (b : ℕ) → is_letter b ≡ true → is_digit b ≡ false
 letter_no_digit b sure =
     false_from_ne_true (is_digit b) (λ e.
-    let low = leb-true 97 b (and_parts _ _ sure).0 in
-    let high = leb-true b 57 (and_parts _ _ e).1 in
+    let low : 97 ≤ b = leb-true 97 b (and_parts (nat_le 97 b) (nat_le b 122) sure).0 in
+    let high : b ≤ 57 = leb-true b 57 (and_parts (nat_le 48 b) (nat_le b 57) e).1 in
     omega (arith, low, high))
 
 begin_number : (q d n l f : Bool) → q ≡ false → (d || n) ≡ true → (if q then begin.Quote else if d || n then begin.Number else if l then begin.Name else if f then begin.Form else begin.Other) ≡ begin.Number

@@ -207,6 +207,10 @@ pub data RefusedText : List ℕ → List ℕ → LangErrorKind → Type 0 where
 abbrev pub IsRefusedAt : List ℕ → ℕ → LangErrorKind → Type 0
 IsRefusedAt text at kind = ((4096 < length text) × (at ≡ 4096) × (kind ≡ TooLong)) ⊎ ((length text ≤ 4096) × (at ≤ length text) × RefusedText text (drop at text) kind)
 
+-- the text is the whole spelling of a program but for the length
+abbrev pub Spells : List ℕ → Program → List ℕ → Type 0
+Spells text program rest = IsWhole text program [] × (rest ≡ [])
+
 -- ---- the answers of `parse`
 
 -- an error is a refusal, unless memory ran out
