@@ -1,0 +1,10 @@
+pub mod NodeLaws
+pub mod Runs
+pub mod Leading
+pub mod Shrinking
+pub mod Outputs
+pub mod Pieces
+pub mod Searching
+pub mod Sharing
+pub mod Preparing
+pub mod Beginning

@@ -1,0 +1,12 @@
+pub mod Begun
+pub mod Evaluation
+pub mod Frames
+pub mod Held
+pub mod Materials
+pub mod Nodes
+pub mod Ops
+pub mod Pieces
+pub mod Prepared
+pub mod Running
+pub mod Stops
+pub mod Walks
