@@ -5,3 +5,6 @@ pub mod Permits
 pub mod Numbers
 pub mod Paths
 pub mod Order
+pub mod Saves
+pub mod Made
+pub mod Ready

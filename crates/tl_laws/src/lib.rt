@@ -5,5 +5,7 @@
 mod numbers;
 mod tables;
 
-pub use numbers::{inputs_are_older, records_are_numbered, waits_are_for_older};
+pub use numbers::{
+    inputs_are_older, records_are_numbered, some_task_is_ready, waits_are_for_older,
+};
 pub use tables::{needs_are_theirs_alone, prios_are_theirs_alone, tasks_are_theirs_alone};
