@@ -1,5 +1,5 @@
 -- The life of a file, one event further.
-use Rattle.std.proofs.Common.{◌≡◌, ℕ, ◌+◌, ◌<◌, ◌≤◌, Bool, true, false, ◌&&◌, if◌then◌else◌, List, [], ◌∷◌, length, map, take, reverse, get_or, Option, Some, None, is_some, refl, sym, ap, ◌∙◌, arith}
+use Rattle.std.proofs.Common.{◌≡◌, ℕ, ◌+◌, ◌<◌, ◌≤◌, Bool, true, false, ◌&&◌, if◌then◌else◌, List, ◌∷◌, length, take, reverse, get_or, Option, Some, None, is_some, refl, sym, ap, ◌∙◌, arith}
 use Rattle.std.proofs.lemmas.List.{length-map, length-reverse, length-take-le, take-map}
 use Rattle.tl_types.specs.Same.{file_same}
 use Rattle.tl_types.specs.declared.file_id.FileId.{FileId}
@@ -9,8 +9,8 @@ use Rattle.tl_model.specs.declared.event.Act.TheVariants.{Call, Served, Shut, Cl
 use Rattle.tl_model.specs.declared.event.Event.{Event}
 use Rattle.tl_model.specs.declared.record.Record.{Record}
 use Rattle.tl_model.specs.Past.{Past, act_with, event_with, without_tickets}
-use Rattle.tl_model.specs.History.{records, record_at, is_output}
-use Rattle.tl_model.specs.Residency.{SavedAs, place, place_after, saved_after, saved_as, is_saved, uses, is_use, recency, reads, claim_reads}
+use Rattle.tl_model.specs.History.{records, record_at}
+use Rattle.tl_model.specs.Residency.{SavedAs, place, place_after, saved_after, saved_as, uses, is_use, recency, reads, claim_reads}
 use Rattle.tl_walk.proofs.Counts.{past_grows}
 use Rattle.tl_walk.specs.Accepts.{records_in, record_of}
 use Rattle.tl_walk.specs.declared.records.Accepted.{Accepted}

@@ -1,5 +1,5 @@
 -- The records of an earlier past are a front of those of a later one.
-use Rattle.std.proofs.Common.{◌≡◌, ℕ, ◌+◌, ◌≤◌, List, [], ◌∷◌, ◌++◌, length, map, take, drop, reverse, refl, sym, ap, ◌∙◌, arith, append_assoc, append-nil, length-append}
+use Rattle.std.proofs.Common.{◌≡◌, ℕ, ◌≤◌, List, [], ◌∷◌, ◌++◌, length, take, drop, reverse, refl, sym, ap, ◌∙◌, arith, append_assoc, append-nil, length-append}
 use Rattle.std.proofs.Math.Seq.{take-append_seam}
 use Rattle.std.proofs.lemmas.List.{map-append, reverse-append, take-append-drop}
 use Rattle.tl_types.specs.declared.actor.Actor.{Actor}
@@ -7,7 +7,7 @@ use Rattle.tl_model.specs.declared.event.Act.{Act}
 use Rattle.tl_model.specs.declared.event.Act.TheVariants.{Call, Served, Shut, Claim, Done, Back, Lose, Free, Drop, Load, Save, Saved, Unsave, Collect}
 use Rattle.tl_model.specs.declared.event.Event.{Event}
 use Rattle.tl_model.specs.declared.record.Record.{Record}
-use Rattle.tl_model.specs.Past.{Plain, Past, event_with, without_tickets}
+use Rattle.tl_model.specs.Past.{Past, event_with, without_tickets}
 use Rattle.tl_model.specs.History.{calls_of, names_of, records, records_of, record_made, with_call}
 
 -- this list begins with the other

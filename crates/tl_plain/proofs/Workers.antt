@@ -1,5 +1,5 @@
 -- The first of the workers that passes a test, one worker further.
-use Rattle.std.proofs.Common.{◌≡◌, ℕ, suc, ◌+◌, ◌-◌, ◌<◌, Bool, false, if◌then◌else◌, List, ◌∷◌, filter, Option, sym, ap, ◌∙◌, arith}
+use Rattle.std.proofs.Common.{◌≡◌, ℕ, suc, ◌+◌, ◌-◌, ◌<◌, Bool, false, if◌then◌else◌, ◌∷◌, filter, Option, sym, ap, ◌∙◌, arith}
 use Rattle.tl_types.specs.declared.worker_id.WorkerId.{WorkerId}
 use Rattle.tl_model.specs.Eviction.{first_of, workers_from}
 

@@ -1,5 +1,5 @@
 -- What becomes of a file in a past, and what one event more makes of it.
-use Rattle.std.specs.Prelude.{ℕ, ◌+◌, nat_lt, Bool, true, false, ◌&&◌, List, length, Option, Some, None, is_none, is_some, slice_get, if◌then◌else◌}
+use Rattle.std.specs.Prelude.{ℕ, ◌+◌, Bool, true, false, ◌&&◌, List, Option, Some, None, is_none, is_some, slice_get, if◌then◌else◌}
 use Rattle.tl_types.specs.Same.{file_same, record_same}
 use Rattle.tl_types.specs.declared.file_id.FileId.{FileId}
 use Rattle.tl_types.specs.declared.record_id.RecordId.{RecordId}

@@ -1,5 +1,5 @@
 -- A reply that names a file with a number above 255 is no reply of the program.
-use Rattle.std.proofs.Common.{◌≡◌, ℕ, ◌<◌, ◌==◌, Bool, true, false, ◌&&◌, refl, sym, ap, ◌∙◌, arith}
+use Rattle.std.proofs.Common.{◌≡◌, ◌==◌, Bool, true, false, ◌&&◌, refl, sym, ap, ◌∙◌, arith}
 use Rattle.std.proofs.lemmas.Bool.Decides.{Decides-eqb}
 use Rattle.tl_types.specs.Same.{file_same, record_same}
 use Rattle.tl_types.specs.declared.file_id.FileId.{FileId}

@@ -1,14 +1,12 @@
 -- Where each job makes at most 256 files, no reply names a file with a number above 255.
-use Rattle.std.proofs.Common.{◌≡◌, ℕ, ◌+◌, ◌<◌, ◌≤◌, Bool, true, false, ◌&&◌, ◌||◌, not, if◌then◌else◌, List, [], ◌∷◌, ◌++◌, length, map, filter, nat_le, Option, Some, None, is_some, IsSome, Result, Ok, Err, arith, lit<, refl}
+use Rattle.std.proofs.Common.{ℕ, ◌+◌, ◌<◌, ◌≤◌, Bool, true, false, not, if◌then◌else◌, List, [], ◌∷◌, ◌++◌, length, filter, nat_le, Option, Some, None, is_some, IsSome, Result, Ok, Err, arith, lit<, refl}
 use Rattle.tl_types.specs.Same.{path_same}
-use Rattle.tl_types.specs.declared.file_id.FileId.{FileId}
 use Rattle.tl_types.specs.declared.record_id.RecordId.{RecordId}
 use Rattle.tl_model.specs.declared.command.Command.{Command}
 use Rattle.tl_model.specs.declared.command.Command.TheVariants.{Put, Job, Read, Delete, Mkdir, Rename, Pin, Unpin, List as list, Stat, Free as free}
-use Rattle.tl_model.specs.declared.reply.Status.TheVariants as status
 use Rattle.tl_model.specs.declared.reply.Reply.{Reply}
 use Rattle.tl_model.specs.declared.reply.Reply.TheVariants.{Made, Fine, Opened, Listed, Stated, Exists, NoSuch, NotFile, NotDir, NotEmpty, TooDeep, IntoItself, TooMany}
-use Rattle.tl_model.specs.Namespace.{PathOf, Node, dir, file, Names, node_at, is_below, parent, with_name, without_name, with_outputs, with_moved, with_pin, with_pinned}
+use Rattle.tl_model.specs.Namespace.{PathOf, Node, dir, file, Names, node_at, is_below, parent, with_name, with_outputs, with_moved, with_pin, with_pinned}
 use Rattle.tl_model.specs.Replies.{Found, and_then, walk_on, walk, want_dir, want_file, walk_to_file, walk_to_parent, refusal_of, or_else, refuse_where, unless, record_limit, new_refusal, count_refusal, inputs_refusal, outputs_refusal, is_full, delete_refusal, is_too_deep, rename_refusal, opened, reply_to, reply_to_list, reply_to_stat}
 use Rattle.tl_model.specs.History.{HistoryOf, names_after, names_of, records_of, reply_after}
 use Rattle.tl_walk.specs.Answered.{NamesWide, Says}

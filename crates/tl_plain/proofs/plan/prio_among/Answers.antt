@@ -3,7 +3,7 @@ use Rattle.std.specs.List.{zip}
 use Rattle.tl_model.specs.Actors.{actors, open_read}
 use Rattle.tl_model.specs.Plan.{prio_of_own}
 use Rattle.tl_walk.specs.Accepts.{record_of, records_in}
-use Rattle.tl_plain.specs.Prios.{greatest_read, greatest_waiting}
+use Rattle.tl_plain.specs.Prios.{greatest_read}
 use Rattle.tl_plain.proofs.Waits.{prio_from}
 use Rattle.tl_plain.proofs.plan.prio_among.Goals as goal
 
