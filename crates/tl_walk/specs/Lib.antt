@@ -4,3 +4,4 @@ pub mod Accepts
 pub mod Answered
 pub mod Moves
 pub mod Few
+pub mod Changes

@@ -4,6 +4,7 @@ ghost use Rattle.std.specs.Prelude.{◌≡◌, IfOk, length, reverse};
 ghost use Rattle.tl_model.specs.History.{calls_of, reply_after};
 ghost use Rattle.tl_model.specs.Replies.{count_refusal, inputs_refusal, new_refusal, opened, or_else, outputs_refusal, refusal_of, reply_to, reply_to_list, reply_to_stat, unless, walk, walk_to_file};
 ghost use Rattle.tl_walk.specs.Answered.{Says};
+ghost use Rattle.tl_walk.specs.Changes.{change_refusal};
 ghost use Rattle.tl_walk.specs.Few.{AllMakeFew};
 ghost use Rattle.tl_walk.specs.Names.{names_in};
 
@@ -72,28 +73,6 @@ pub fn reply_to<T>(
             let path = parts_of(alloc, path)?;
             Ok(reply_to_read(names, &path))
         }
-        Command::Delete { path } => {
-            let path = parts_of(alloc, path)?;
-            Ok(Some(fine_unless(delete_refusal(names, &path))))
-        }
-        Command::Mkdir { path } => {
-            let path = parts_of(alloc, path)?;
-            Ok(Some(fine_unless(new_refusal(names, &path))))
-        }
-        Command::Rename { from, to } => {
-            let from = parts_of(alloc, from)?;
-            let to = parts_of(alloc, to)?;
-            let refusal = rename_refusal(alloc, names, &from, &to)?;
-            Ok(Some(fine_unless(refusal)))
-        }
-        Command::Pin { path } => {
-            let path = parts_of(alloc, path)?;
-            Ok(Some(fine_unless(file_refusal(names, &path))))
-        }
-        Command::Unpin { path } => {
-            let path = parts_of(alloc, path)?;
-            Ok(Some(fine_unless(file_refusal(names, &path))))
-        }
         Command::List { path } => {
             let path = parts_of(alloc, path)?;
             let reply = reply_to_list(alloc, names, &path)?;
@@ -103,10 +82,33 @@ pub fn reply_to<T>(
             let path = parts_of(alloc, path)?;
             Ok(reply_to_stat(names, &path))
         }
-        Command::Free { path } => {
-            let path = parts_of(alloc, path)?;
-            Ok(Some(fine_unless(file_refusal(names, &path))))
+        _ => {
+            let refusal = change_refusal(alloc, names, command)?;
+            Ok(Some(fine_unless(refusal)))
         }
+    }
+}
+
+// Why the command, which is answered that it is done or with a refusal, is refused, if it is.
+fn change_refusal<T>(
+    alloc: Global,
+    names: &[Name],
+    command: &Command<T>,
+) -> Result<Option<Reply>, NoMemory>
+    ensures { IfOk result (λ refusal. refusal ≡ change_refusal (names_in names.now) command.now) }
+{
+    match command {
+        Command::Delete { path } => Ok(delete_refusal(names, &parts_of(alloc, path)?)),
+        Command::Mkdir { path } => Ok(new_refusal(names, &parts_of(alloc, path)?)),
+        Command::Rename { from, to } => {
+            let from = parts_of(alloc, from)?;
+            let to = parts_of(alloc, to)?;
+            rename_refusal(alloc, names, &from, &to)
+        }
+        Command::Pin { path } => Ok(file_refusal(names, &parts_of(alloc, path)?)),
+        Command::Unpin { path } => Ok(file_refusal(names, &parts_of(alloc, path)?)),
+        Command::Free { path } => Ok(file_refusal(names, &parts_of(alloc, path)?)),
+        _ => Ok(None),
     }
 }
 
