@@ -1,21 +1,19 @@
 -- How the tables answer, where nothing changes.
-use Rattle.std.proofs.Common.{◌≡◌, ℕ, ◌+◌, ◌<◌, Bool, true, false, cond, List, [], ◌∷◌, length, Option, Some, None, Result, Ok, Err, refl, sym, ap, ◌∙◌, subst, arith}
-use Rattle.std.proofs.lemmas.Bool.{true≢false, false≢true}
-use Rattle.tl_types.specs.declared.file_id.FileId.{FileId}
+use Rattle.std.proofs.Common.{◌≡◌, ℕ, ◌+◌, Bool, true, false, cond, List, [], ◌∷◌, length, Option, Some, None, Result, Ok, Err, refl, sym, ap, ◌∙◌, subst, arith}
+use Rattle.std.proofs.lemmas.Bool.{true≢false}
 use Rattle.tl_model.specs.declared.command.Command.{Command}
-use Rattle.tl_model.specs.declared.command.Command.TheVariants.{Put, Job, Read, Delete, Mkdir, Rename, Pin, Unpin, List as list, Stat, Free}
 use Rattle.tl_model.specs.declared.record.Record.{Record}
 use Rattle.tl_model.specs.declared.reply.Reply.{Reply}
 use Rattle.tl_model.specs.declared.reply.Reply.TheVariants.{Made, Fine, Opened, Listed, Stated, Exists, NoSuch, NotFile, NotDir, NotEmpty, TooDeep, IntoItself, TooMany}
-use Rattle.tl_model.specs.Namespace.{PathOf, Node, dir, file, Names, parent, last_part}
-use Rattle.tl_model.specs.Replies.{and_then, opened, refusal_of, reply_to, unless, walk, walk_to_file, want_file}
+use Rattle.tl_model.specs.Namespace.{PathOf, Names, parent, last_part}
+use Rattle.tl_model.specs.Replies.{and_then, reply_to, walk_to_file, want_file}
 use Rattle.tl_model.specs.History.{names_after, record_made}
 use Rattle.tl_names.specs.declared.child.Child.{Child}
 use Rattle.tl_names.specs.declared.child.Child.TheVariants.{Dir, File}
-use Rattle.tl_names.specs.Answers.{Answers, Tables, tables, is_accepted}
+use Rattle.tl_names.specs.Answers.{Answers, Tables, is_accepted}
 use Rattle.tl_names.specs.Pins.{PinList, PinsStandFor}
 use Rattle.tl_names.specs.Standing.{StandsFor}
-use Rattle.tl_names.specs.Tables.{Dirs, child_at, found_child, step, walk_from, place, file_of, room_in, room_for, IsTree}
+use Rattle.tl_names.specs.Tables.{Dirs, child_at, found_child, walk_from, place, file_of, room_in, room_for, IsTree}
 use Rattle.tl_names.proofs.Replied.{found_as, walk_same}
 
 pub names_kept : (r : Reply) (c : Command (Unit {0})) (names : Names) → is_accepted r ≡ false → names_after r c names ≡ names

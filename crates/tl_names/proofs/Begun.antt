@@ -1,20 +1,17 @@
 -- The first tables, and what a walk of them finds.
-use Rattle.std.proofs.Common.{◌≡◌, ℕ, List, [], ◌∷◌, Option, Some, None, Result, Ok, Err, refl, sym, ap, ◌∙◌, subst, inl, inr, ◌⊎◌}
+use Rattle.std.proofs.Common.{◌≡◌, ℕ, List, [], ◌∷◌, Some, None, Result, refl, sym, ap, ◌∙◌, subst, inl, inr, ◌⊎◌}
 use Rattle.std.specs.Prelude.{IsSome, unwrap_or, slice_index_or}
-use Rattle.std.specs.Cmp.Lexicographic.{slice_cmp}
 use Rattle.std.specs.List.Sorted.{IsStrictlySortedBy}
-use Rattle.std.specs.Map.{lookup, keys_of}
-use Rattle.std.specs.Ordering.{nat_cmp}
+use Rattle.std.specs.Map.{lookup}
 use Rattle.std.specs.Str.{bytes_eq}
 use Rattle.std.proofs.lemmas.Bool.{cases_eq}
 use Rattle.std.proofs.lemmas.Option.{none-some}
 use Rattle.slab.specs.Slab.{Slab, Updates, get}
-use Rattle.tl_types.specs.declared.file_id.FileId.{FileId}
 use Rattle.tl_model.specs.declared.reply.Reply.{Reply}
 use Rattle.tl_model.specs.Namespace.{PathOf, Names, no_names, node_at}
 use Rattle.tl_model.specs.Replies.{and_then, walk}
 use Rattle.tl_names.specs.declared.child.Child.{Child}
-use Rattle.tl_names.specs.declared.child.Child.TheVariants.{Dir, File}
+use Rattle.tl_names.specs.declared.child.Child.TheVariants.{Dir}
 use Rattle.tl_names.specs.Found.{found}
 use Rattle.tl_names.specs.Standing.{StandsFor}
 use Rattle.tl_names.specs.Tables.{Children, Dirs, children_at, child_at, found_child, node_found, node_in, place, walk_from, IsTree}

@@ -1,11 +1,10 @@
 -- One name in one directory changes: what each path names then.
-use Rattle.std.proofs.Common.{◌≡◌, ℕ, ◌+◌, ◌<◌, ◌≤◌, Bool, true, false, List, [], ◌∷◌, ◌++◌, length, drop, Option, Some, None, Result, Ok, Err, refl, sym, ap, ◌∙◌, subst, arith, append-nil}
-use Rattle.tl_model.specs.declared.reply.Reply.{Reply}
+use Rattle.std.proofs.Common.{◌≡◌, ℕ, ◌<◌, Bool, true, false, List, [], ◌∷◌, ◌++◌, length, drop, Option, None, Ok, refl, sym, ap, ◌∙◌, arith, append-nil}
 use Rattle.tl_model.specs.Namespace.{PathOf, is_below}
 use Rattle.tl_model.specs.Replies.{and_then}
 use Rattle.tl_names.specs.declared.child.Child.{Child}
-use Rattle.tl_names.specs.declared.child.Child.TheVariants.{Dir, File}
-use Rattle.tl_names.specs.Tables.{Dirs, child_at, found_child, step, walk_from, place, node_found, node_in, IsKnown, IsTree}
+use Rattle.tl_names.specs.declared.child.Child.TheVariants.{Dir}
+use Rattle.tl_names.specs.Tables.{Dirs, child_at, found_child, walk_from, place, node_found, node_in, IsTree}
 use Rattle.tl_names.proofs.Below.{below_rest, not_below, front_short}
 use Rattle.tl_names.proofs.Places.{SameOff, same_walk, unique_path, walk_append, below_place}
 

@@ -1,18 +1,13 @@
 -- The list of files in their order.
-use Rattle.std.proofs.Common.{◌≡◌, ℕ, Bool, cond, List, [], ◌∷◌, Option, Some, None, refl, sym, ap, ◌∙◌}
+use Rattle.std.proofs.Common.{◌≡◌, refl, sym, ap, ◌∙◌}
 use Rattle.std.specs.Prelude.{◌==◌, ◌&&◌}
 use Rattle.std.specs.Cmp.{unsigned_ties}
-use Rattle.std.specs.List.Sorted.{IsStrictlySortedBy}
-use Rattle.std.specs.Map.{lookup, remove_entry, keys_of}
-use Rattle.std.specs.BTreeMap.{is_at}
 use Rattle.std.specs.Ordering.{is_eq, nat_cmp, ordering_then}
 use Rattle.std.specs.declared.cmp.Ordering.{Ordering}
 use Rattle.std.specs.declared.cmp.Ordering.TheVariants.{Less, Equal, Greater}
-use Rattle.std.proofs.lemmas.Map.Keys.{sorted_head, sorted_tail, IsDistinct-cons}
 use Rattle.tl_types.specs.Same.{file_cmp, file_same, file_same-Decides}
 use Rattle.tl_types.specs.declared.file_id.FileId.{FileId}
-use Rattle.tl_names.specs.Pins.{PinList, pin_in}
-use Rattle.tl_names.proofs.Entries.{IsKeyed, removed_here}
+use Rattle.tl_names.proofs.Entries.{IsKeyed}
 
 file_ties : (a b : FileId) → is_eq (file_cmp a b) ≡ file_same a b
 file_ties a b =

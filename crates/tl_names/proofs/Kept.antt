@@ -1,21 +1,18 @@
 -- The tables stand for the changed names where one name changed in both.
-use Rattle.std.proofs.Common.{◌≡◌, ℕ, ◌+◌, ◌<◌, Bool, true, false, cond, List, [], ◌∷◌, ◌++◌, Option, Some, None, Result, Ok, Err, refl, sym, ap, ◌∙◌, subst, inl, inr, ◌⊎◌}
-use Rattle.std.specs.Prelude.{IsSome, ◌||◌, ◌&&◌, slice_set, slice_index_or}
+use Rattle.std.proofs.Common.{◌≡◌, ℕ, Bool, true, false, List, [], Option, Some, None, refl, sym, ap, ◌∙◌, subst, inl, inr, ◌⊎◌}
 use Rattle.std.specs.BTreeMap.{insert_entry}
 use Rattle.std.specs.Cmp.Lexicographic.{slice_cmp}
-use Rattle.std.specs.List.{list_any}
 use Rattle.std.specs.Map.{lookup, remove_entry}
 use Rattle.std.specs.Option.{option_map}
 use Rattle.std.specs.Ordering.{nat_cmp}
 use Rattle.std.specs.Str.{bytes_eq}
 use Rattle.std.proofs.lemmas.Bool.{true≢false, cond-true, cond-false, cases_eq}
 use Rattle.tl_types.specs.Same.{path_same, path_same-Decides}
-use Rattle.tl_model.specs.declared.reply.Reply.{Reply}
-use Rattle.tl_model.specs.Namespace.{PathOf, Node, dir, file, Names, node_at, with_name, without_name, with_pin, with_pinned}
+use Rattle.tl_model.specs.Namespace.{PathOf, Node, Names, node_at, with_name, without_name, with_pin, with_pinned}
 use Rattle.tl_model.specs.Replies.{and_then}
 use Rattle.tl_names.specs.declared.child.Child.{Child}
 use Rattle.tl_names.specs.declared.child.Child.TheVariants.{Dir, File}
-use Rattle.tl_names.specs.Tables.{Children, Dirs, children_at, child_at, found_child, walk_from, node_of, node_found, node_in, place, with_child, without_child, IsKnown, IsTree, MakesDir}
+use Rattle.tl_names.specs.Tables.{Dirs, children_at, child_at, found_child, walk_from, node_found, node_in, with_child, without_child, IsKnown, IsTree}
 use Rattle.tl_names.specs.Standing.{HasEachOnce, StandsFor}
 use Rattle.tl_names.proofs.Ascending.{Ascends, inserted_ascends, removed_ascends}
 use Rattle.tl_names.proofs.Below.{paths_apart, same_path}

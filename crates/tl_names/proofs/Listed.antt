@@ -1,33 +1,30 @@
 -- The names in a directory, counted and listed.
-use Rattle.std.proofs.Common.{◌≡◌, ℕ, ◌+◌, ◌<◌, suc, Bool, true, false, cond, List, [], ◌∷◌, ◌++◌, length, drop, map, Option, Some, None, Ok, refl, sym, ap, ◌∙◌, subst, arith, length-append, append-nil}
-use Rattle.std.specs.Prelude.{◌==◌, ◌&&◌}
-use Rattle.std.specs.Cmp.{IsTotalOrder}
-use Rattle.std.specs.Cmp.Lexicographic.{slice_cmp, nat_list_cmp_total}
-use Rattle.std.specs.List.{AllByRecursion, IsDistinct}
+use Rattle.std.proofs.Common.{◌≡◌, ℕ, ◌+◌, suc, Bool, true, false, cond, List, [], ◌∷◌, ◌++◌, length, drop, map, Option, Some, None, Ok, refl, sym, ap, ◌∙◌, subst, arith, length-append, append-nil}
+use Rattle.std.specs.Prelude.{◌==◌}
+use Rattle.std.specs.Cmp.Lexicographic.{slice_cmp}
+use Rattle.std.specs.List.{AllByRecursion}
 use Rattle.std.specs.List.Sorted.{IsStrictlySortedBy}
 use Rattle.std.specs.Map.{lookup, keys_of, remove_entry}
 use Rattle.std.specs.Option.{option_map}
-use Rattle.std.specs.Ordering.{nat_cmp, is_lt, is_eq, eq_by_cmp, ordering_reverse}
-use Rattle.std.specs.declared.cmp.Ordering.{Ordering}
-use Rattle.std.specs.declared.cmp.Ordering.TheVariants.{Less, Equal, Greater}
+use Rattle.std.specs.Ordering.{nat_cmp, is_lt}
+use Rattle.std.specs.declared.cmp.Ordering.TheVariants.{Less}
 use Rattle.std.specs.Str.{bytes_eq}
-use Rattle.std.proofs.lemmas.Bool.{true≢false, false≢true, cond-true, cond-false, and_parts, and_from, eqb-true, eq-eqb, false_from_ne_true}
-use Rattle.std.proofs.lemmas.Map.Keys.{sorted_head, sorted_tail, IsDistinct-cons}
-use Rattle.std.proofs.lemmas.Map.Text.{is_eq-slice_cmp}
+use Rattle.std.proofs.lemmas.Bool.{true≢false, cond-true, cond-false, and_parts, and_from, eqb-true, eq-eqb}
+use Rattle.std.proofs.lemmas.Map.Keys.{sorted_head, sorted_tail}
 use Rattle.std.proofs.lemmas.Option.{none-some}
 use Rattle.std.proofs.lemmas.Slice.Eq.{bytes_eq-Decides}
 use Rattle.tl_types.specs.Same.{path_same, path_same-Decides}
 use Rattle.tl_model.specs.declared.reply.Entry.{Entry}
-use Rattle.tl_model.specs.Namespace.{PathOf, Node, dir, file, Names, node_at, is_dir, is_below, is_child, children, last_part}
+use Rattle.tl_model.specs.Namespace.{PathOf, Node, Names, node_at, is_dir, is_below, is_child, children, last_part}
 use Rattle.tl_model.specs.Replies.{entry_of, name_before, listing}
 use Rattle.tl_model.specs.Tables.{put_by, sort_by}
 use Rattle.tl_names.specs.declared.child.Child.{Child}
 use Rattle.tl_names.specs.declared.child.Child.TheVariants.{Dir, File}
-use Rattle.tl_names.specs.Tables.{Children, Dirs, children_at, child_at, entry_in, found_child, is_dir_child, node_found, node_in, place}
+use Rattle.tl_names.specs.Tables.{Children, Dirs, children_at, child_at, entry_in, found_child, is_dir_child, node_found, place}
 use Rattle.tl_names.specs.Standing.{HasEachOnce, StandsFor}
 use Rattle.tl_names.proofs.Ascending.{Ascends, distinct_names, less_than_found, not_before, removed_ascends}
 use Rattle.tl_names.proofs.Below.{below_rest, is_below-append, paths_apart}
-use Rattle.tl_names.proofs.Entries.{by_bytes, keys_apart, same_key, removed_here, removed_apart}
+use Rattle.tl_names.proofs.Entries.{by_bytes, removed_here, removed_apart}
 use Rattle.tl_names.proofs.Places.{below_place}
 
 -- names, each with whether it names a directory

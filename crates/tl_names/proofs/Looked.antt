@@ -1,19 +1,14 @@
 -- The answers to commands that change no name.
-use Rattle.std.proofs.Common.{◌≡◌, ℕ, ◌+◌, Bool, true, false, List, [], length, map, Option, Some, None, Result, Ok, Err, refl, sym, ap, ◌∙◌, subst}
-use Rattle.std.specs.Cmp.Lexicographic.{slice_cmp}
-use Rattle.std.specs.List.Sorted.{IsStrictlySortedBy}
-use Rattle.std.specs.Map.{keys_of}
-use Rattle.std.specs.Ordering.{nat_cmp}
+use Rattle.std.proofs.Common.{◌≡◌, ℕ, Bool, List, [], length, map, Result, Ok, Err, refl, sym, ap, ◌∙◌}
 use Rattle.tl_types.specs.declared.file_id.FileId.{FileId}
-use Rattle.tl_model.specs.declared.command.Command.{Command}
 use Rattle.tl_model.specs.declared.command.Command.TheVariants.{Read, List as list, Stat, Free}
 use Rattle.tl_model.specs.declared.command.Form.{Form}
 use Rattle.tl_model.specs.declared.reply.Entry.{Entry}
 use Rattle.tl_model.specs.declared.reply.Reply.{Reply}
 use Rattle.tl_model.specs.declared.reply.Reply.TheVariants.{Fine, Listed, Stated, NotDir}
 use Rattle.tl_model.specs.declared.reply.Status.TheVariants as status
-use Rattle.tl_model.specs.Namespace.{PathOf, Names, children}
-use Rattle.tl_model.specs.Replies.{and_then, opened, refusal_of, reply_to_list, reply_to_stat, unless, walk, walk_to_file}
+use Rattle.tl_model.specs.Namespace.{PathOf, Names}
+use Rattle.tl_model.specs.Replies.{and_then, opened, refusal_of, reply_to_list, reply_to_stat, unless, walk}
 use Rattle.tl_names.specs.declared.child.Child.{Child}
 use Rattle.tl_names.specs.declared.child.Child.TheVariants.{Dir, File}
 use Rattle.tl_names.specs.Answers.{Answers, tables}

@@ -1,14 +1,13 @@
 -- What a path names after a change of the list of names.
-use Rattle.std.proofs.Common.{◌≡◌, ℕ, Bool, true, false, cond, List, [], ◌∷◌, Option, Some, None, refl, sym, ap, ◌∙◌}
+use Rattle.std.proofs.Common.{◌≡◌, Bool, true, false, cond, [], ◌∷◌, Some, None, refl, sym, ap, ◌∙◌}
 use Rattle.std.specs.Prelude.{not}
-use Rattle.std.specs.Map.{lookup}
 use Rattle.std.specs.Option.{option_map}
-use Rattle.std.proofs.lemmas.Bool.{cond-true, cond-false, true≢false}
+use Rattle.std.proofs.lemmas.Bool.{cond-false, true≢false}
 use Rattle.std.proofs.lemmas.Option.{none-some}
 use Rattle.tl_types.specs.Same.{path_same, path_same-Decides}
 use Rattle.tl_model.specs.Namespace.{PathOf, Node, Names, node_at, without_name, with_pin, with_pinned}
 use Rattle.tl_names.specs.Standing.{HasEachOnce}
-use Rattle.tl_names.proofs.Below.{paths_apart, same_path}
+use Rattle.tl_names.proofs.Below.{paths_apart}
 
 -- ---- of two names where the first is not at the path
 

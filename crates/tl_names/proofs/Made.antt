@@ -1,22 +1,21 @@
 -- A name is made, for a file or for a new directory.
-use Rattle.std.proofs.Common.{◌≡◌, ℕ, ◌+◌, ◌<◌, Bool, true, false, cond, List, [], ◌∷◌, ◌++◌, Option, Some, None, is_some, Result, Ok, Err, refl, sym, ap, ◌∙◌, subst}
-use Rattle.std.specs.Prelude.{IsSome, slice_index_or, unwrap_or}
+use Rattle.std.proofs.Common.{◌≡◌, ℕ, Bool, List, [], ◌∷◌, ◌++◌, Some, None, is_some, Ok, refl, sym, ap, ◌∙◌, subst}
+use Rattle.std.specs.Prelude.{unwrap_or}
 use Rattle.std.specs.Map.{lookup}
 use Rattle.std.specs.Str.{bytes_eq}
 use Rattle.std.proofs.lemmas.Bool.{false≢true}
 use Rattle.tl_types.specs.declared.file_id.FileId.{FileId}
-use Rattle.tl_model.specs.declared.reply.Reply.{Reply}
 use Rattle.tl_model.specs.Namespace.{PathOf, Node, dir, file, Names, node_at, parent, last_part, with_name}
 use Rattle.tl_names.specs.declared.child.Child.{Child}
 use Rattle.tl_names.specs.declared.child.Child.TheVariants.{Dir, File}
-use Rattle.tl_names.specs.Tables.{Children, Dirs, children_at, child_at, found_child, node_of, node_found, node_in, place, put_in, put_at, room_for, with_child, IsKnown, IsTree, MakesDir}
+use Rattle.tl_names.specs.Tables.{Dirs, children_at, child_at, found_child, node_of, node_found, node_in, place, put_in, put_at, room_for, with_child, IsKnown, IsTree, MakesDir}
 use Rattle.tl_names.specs.Standing.{StandsFor}
 use Rattle.tl_names.proofs.Ascending.{Ascends}
 use Rattle.tl_names.proofs.Changes.{OneChanged, IsLeaf, LeafChanged, leaf_changed}
 use Rattle.tl_names.proofs.Kept.{NamesChanged, child_set, empty_leaf, file_leaf, name_added, no_leaf, set_one, stands_changed, with_ascends}
 use Rattle.tl_names.proofs.Places.{below_place, known_place}
 use Rattle.tl_names.proofs.Rooms.{RoomAt, room_found}
-use Rattle.tl_names.proofs.Trees.{IsFree, set_apart, set_known, tree_changed}
+use Rattle.tl_names.proofs.Trees.{set_apart, set_known, tree_changed}
 
 -- the tables follow a new name
 pub record Makes (old new : Dirs) (path : PathOf) (node : Node) : Type 0 where

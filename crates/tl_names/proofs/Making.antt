@@ -1,5 +1,5 @@
 -- The answers to commands that make names.
-use Rattle.std.proofs.Common.{◌≡◌, ℕ, ◌+◌, ◌<◌, Bool, true, false, cond, List, [], ◌∷◌, ◌++◌, length, Option, Some, None, is_some, Result, Ok, Err, refl, sym, ap, ◌∙◌, subst, arith}
+use Rattle.std.proofs.Common.{◌≡◌, ℕ, ◌+◌, Bool, true, false, List, [], ◌∷◌, ◌++◌, length, Option, Some, None, is_some, Result, Ok, Err, refl, sym, ap, ◌∙◌, subst}
 use Rattle.std.specs.Prelude.{nat_le}
 use Rattle.std.proofs.lemmas.Bool.{true≢false}
 use Rattle.tl_types.specs.declared.digest.Digest.{Digest}
@@ -8,13 +8,11 @@ use Rattle.tl_types.specs.declared.record_id.RecordId.{RecordId}
 use Rattle.tl_lang.specs.declared.job.JobSpecCore.{JobSpecCore}
 use Rattle.tl_model.specs.declared.command.Command.{Command}
 use Rattle.tl_model.specs.declared.command.Command.TheVariants.{Put, Job, Mkdir}
-use Rattle.tl_model.specs.declared.record.Record.{Record}
 use Rattle.tl_model.specs.declared.reply.Reply.{Reply}
 use Rattle.tl_model.specs.declared.reply.Reply.TheVariants.{Made, Fine, Exists, NoSuch, NotDir, TooMany}
 use Rattle.tl_model.specs.Namespace.{PathOf, Node, dir, file, Names, node_at, parent, with_name, with_outputs}
-use Rattle.tl_model.specs.Replies.{Found, and_then, count_refusal, inputs_refusal, new_refusal, or_else, outputs_refusal, record_limit, refusal_of, refuse_where, reply_to, unless, walk, walk_on, walk_to_file, walk_to_parent, want_dir}
+use Rattle.tl_model.specs.Replies.{Found, and_then, count_refusal, inputs_refusal, new_refusal, or_else, outputs_refusal, record_limit, refusal_of, refuse_where, reply_to, unless, walk, walk_on, walk_to_parent, want_dir}
 use Rattle.tl_model.specs.History.{names_after, record_made}
-use Rattle.tl_names.specs.declared.child.Child.{Child}
 use Rattle.tl_names.specs.Answers.{Answers, Tables, tables, is_accepted}
 use Rattle.tl_names.specs.Pins.{MakesFiles, PinList, PinsStandFor}
 use Rattle.tl_names.specs.Standing.{StandsFor}

@@ -1,34 +1,33 @@
 -- What a move takes along, and whether it has a path.
-use Rattle.std.proofs.Common.{◌≡◌, ℕ, zero, suc, ◌+◌, ◌-◌, ◌<◌, ◌≤◌, Bool, true, false, cond, List, [], ◌∷◌, ◌++◌, length, take, drop, get_or, Option, Some, None, is_some, Result, Ok, Err, refl, sym, ap, ◌∙◌, subst, inl, inr, ◌⊎◌, arith, length-append, append_assoc, append-nil, length-take, take-append-drop}
+use Rattle.std.proofs.Common.{◌≡◌, ℕ, zero, suc, ◌+◌, ◌-◌, ◌<◌, ◌≤◌, Bool, true, false, cond, List, [], ◌∷◌, ◌++◌, length, take, drop, get_or, Option, Some, None, is_some, Result, Ok, Err, refl, sym, ap, ◌∙◌, subst, inl, inr, ◌⊎◌, arith, length-append, append-nil, take-append-drop}
 use Rattle.std.specs.Prelude.{◌&&◌, ◌||◌, not, nat_lt, nat_le, slice_get, IsSome}
 use Rattle.std.specs.Global.{Vec}
 use Rattle.std.specs.Cmp.Lexicographic.{slice_cmp}
-use Rattle.std.specs.List.{flat_map, list_all, list_any, AllByRecursion}
+use Rattle.std.specs.List.{flat_map, list_all, list_any}
 use Rattle.std.specs.Map.{lookup, keys_of}
 use Rattle.std.specs.Ordering.{nat_cmp, is_eq}
 use Rattle.std.specs.declared.cmp.Ordering.TheVariants.{Less}
 use Rattle.std.specs.Str.{bytes_eq}
 use Rattle.std.proofs.Math.ListN.{get_or-append}
-use Rattle.std.proofs.lemmas.Bool.{true≢false, false≢true, and_parts, and_from, and_left, and_right, and_cases, ltb-true, ltb-false, lt-ltb, leb-true, le-leb, lt-leb, le-ltb, eqb-true, cases_Bool, cond-true, cond-false, or_from, or_left, or_right}
-use Rattle.std.proofs.lemmas.List.{take_more, get_or-take}
+use Rattle.std.proofs.lemmas.Bool.{true≢false, false≢true, and_parts, and_from, and_left, and_right, ltb-true, ltb-false, lt-ltb, leb-true, le-leb, lt-leb, le-ltb, cases_Bool, cond-true, or_from, or_left, or_right}
+use Rattle.std.proofs.lemmas.List.{take_more}
 use Rattle.std.proofs.lemmas.List.Concat.{flat_map-append}
 use Rattle.std.proofs.lemmas.Map.Keys.{sorted_head, sorted_tail}
 use Rattle.std.proofs.lemmas.Map.Text.{is_eq-slice_cmp}
 use Rattle.std.proofs.lemmas.Option.{none-some, get_or_from_slice_get}
 use Rattle.std.proofs.lemmas.Slice.Eq.{bytes_eq-Decides}
-use Rattle.tl_types.specs.Path.{IsPath, is_path, is_component, slash_before, spelled}
+use Rattle.tl_types.specs.Path.{IsPath, is_component, slash_before, spelled}
 use Rattle.tl_types.specs.Same.{path_same, path_same-Decides}
 use Rattle.tl_model.specs.declared.reply.Reply.{Reply}
-use Rattle.tl_model.specs.declared.reply.Reply.TheVariants.{NoSuch, NotDir}
-use Rattle.tl_model.specs.Namespace.{PathOf, Node, Names, node_at, is_below, last_part, moved, parent}
+use Rattle.tl_model.specs.Namespace.{PathOf, Names, node_at, is_below, last_part, moved, parent}
 use Rattle.tl_model.specs.Replies.{and_then, is_too_deep, within_limits}
 use Rattle.tl_names.specs.declared.child.Child.{Child}
 use Rattle.tl_names.specs.declared.child.Child.TheVariants.{Dir, File}
 use Rattle.tl_names.specs.Moves.{all_below, bytes_of, child_fits}
 use Rattle.tl_names.specs.Standing.{StandsFor}
-use Rattle.tl_names.specs.Tables.{Children, Dirs, children_at, child_at, children_of, found_child, walk_from, place, node_found, node_in, IsTree}
+use Rattle.tl_names.specs.Tables.{Children, Dirs, children_at, child_at, children_of, found_child, walk_from, place, node_found, IsTree}
 use Rattle.tl_names.proofs.Ascending.{Ascends, less_than_found}
-use Rattle.tl_names.proofs.Below.{below_rest, below_from, is_below-append, not_below}
+use Rattle.tl_names.proofs.Below.{below_rest, below_from, is_below-append}
 use Rattle.tl_names.proofs.Places.{walk_append}
 use Rattle.tl_names.proofs.Replied.{parts_again}
 

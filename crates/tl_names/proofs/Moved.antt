@@ -1,44 +1,37 @@
 -- Names after a move.
-use Rattle.std.proofs.Common.{◌≡◌, ℕ, ◌+◌, ◌-◌, ◌<◌, ◌≤◌, suc, Bool, true, false, cond, List, [], ◌∷◌, ◌++◌, length, take, drop, Option, Some, None, is_some, Result, Ok, Err, refl, sym, ap, ◌∙◌, subst, inl, inr, ◌⊎◌, arith, length-append, append_assoc, append-nil}
-use Rattle.std.specs.Prelude.{◌&&◌, ◌||◌, not, IsSome, nat_le}
+use Rattle.std.proofs.Common.{◌≡◌, ℕ, ◌+◌, ◌-◌, ◌<◌, ◌≤◌, suc, Bool, true, false, cond, List, [], ◌∷◌, ◌++◌, length, drop, Some, None, Result, Ok, Err, refl, sym, ap, ◌∙◌, subst, inl, inr, ◌⊎◌, arith, length-append, append_assoc}
 use Rattle.std.specs.List.{list_any, AllByRecursion}
 use Rattle.std.specs.BTreeMap.{insert_entry}
 use Rattle.std.specs.Cmp.Lexicographic.{slice_cmp}
-use Rattle.std.specs.Map.{lookup, remove_entry}
+use Rattle.std.specs.Map.{remove_entry}
 use Rattle.std.specs.Ordering.{nat_cmp}
 use Rattle.std.specs.Str.{bytes_eq}
-use Rattle.std.proofs.lemmas.Bool.{true≢false, false≢true, cond-true, cond-false, cases_Bool}
+use Rattle.std.proofs.lemmas.Bool.{true≢false, cond-true, cond-false}
 use Rattle.std.proofs.lemmas.Bool.Decides.{same_from_decides}
-use Rattle.std.specs.Bool.{Decides}
 use Rattle.std.proofs.lemmas.List.{append_cancel_left}
 use Rattle.std.proofs.lemmas.Option.{none-some}
-use Rattle.std.proofs.lemmas.Slice.Eq.{bytes_eq-Decides}
 use Rattle.slab.specs.Slab.{Slab, with_value}
 use Rattle.tl_types.specs.Same.{path_same, path_same-Decides}
-use Rattle.tl_types.specs.declared.file_id.FileId.{FileId}
-use Rattle.tl_types.specs.Path.{IsPath}
-use Rattle.tl_model.specs.declared.command.Command.{Command}
 use Rattle.tl_model.specs.declared.command.Command.TheVariants.{Rename}
-use Rattle.tl_model.specs.declared.record.Record.{Record}
 use Rattle.tl_model.specs.declared.reply.Reply.{Reply}
 use Rattle.tl_model.specs.declared.reply.Reply.TheVariants.{Fine, IntoItself, TooDeep}
-use Rattle.tl_model.specs.Namespace.{PathOf, Node, Names, node_at, is_below, last_part, moved, parent, with_moved}
-use Rattle.tl_model.specs.Replies.{and_then, is_too_deep, new_refusal, or_else, refusal_of, refuse_where, rename_refusal, unless, walk}
+use Rattle.tl_model.specs.Namespace.{PathOf, Names, node_at, is_below, last_part, moved, parent, with_moved}
+use Rattle.tl_model.specs.Replies.{and_then, is_too_deep, new_refusal, or_else, refusal_of, refuse_where, rename_refusal, unless}
 use Rattle.tl_model.specs.History.{is_file_node, is_pinned_node}
 use Rattle.tl_names.specs.declared.child.Child.{Child}
-use Rattle.tl_names.specs.declared.child.Child.TheVariants.{Dir, File}
+use Rattle.tl_names.specs.declared.child.Child.TheVariants.{Dir}
 use Rattle.tl_names.specs.Answers.{Answers, tables}
 use Rattle.tl_names.specs.Moves.{bytes_of, child_fits}
-use Rattle.tl_names.specs.Pins.{PinList, PinsStandFor, names_file, pins_file, pin_of}
+use Rattle.tl_names.specs.Pins.{PinList, PinsStandFor, names_file, pins_file}
 use Rattle.tl_names.specs.Standing.{HasEachOnce, StandsFor}
-use Rattle.tl_names.specs.Tables.{Children, Dirs, children_at, child_at, found_child, step, walk_from, place, node_found, node_in, room_for, with_child, without_child, IsKnown, IsTree}
+use Rattle.tl_names.specs.Tables.{Children, Dirs, children_at, child_at, found_child, walk_from, place, node_found, node_in, room_for, with_child, without_child, IsKnown, IsTree}
 use Rattle.tl_names.proofs.Answered.{kept_answers, room_refuses, same_count, walk_refuses}
 use Rattle.tl_names.proofs.Ascending.{Ascends, removed_ascends}
 use Rattle.tl_names.proofs.Below.{below_from, below_rest, is_below-append, not_below, paths_apart}
 use Rattle.tl_names.proofs.Changes.{OneChanged}
 use Rattle.tl_names.proofs.Kept.{child_set, set_one, unset_one, with_ascends}
 use Rattle.tl_names.proofs.Lookups.{absent_head}
-use Rattle.tl_names.proofs.Movable.{is_deep, moved_below, not_deep, path_limits}
+use Rattle.tl_names.proofs.Movable.{is_deep, moved_below, not_deep}
 use Rattle.tl_names.proofs.Pinned.{moved_any, moved_files_once}
 use Rattle.tl_names.proofs.Places.{SameOff, below_place, known_place, same_walk, unique_path, walk_append}
 use Rattle.tl_names.proofs.Replied.{found_as, room_same, walk_same}

@@ -1,25 +1,22 @@
 -- The outputs of a record get their names one after the other.
-use Rattle.std.proofs.Common.{◌≡◌, ℕ, ◌+◌, ◌<◌, Bool, true, false, cond, List, [], ◌∷◌, length, Option, Some, None, is_some, Result, Ok, Err, refl, sym, ap, ◌∙◌, subst, inl, inr, ◌⊎◌, arith}
+use Rattle.std.proofs.Common.{◌≡◌, ℕ, ◌+◌, ◌<◌, Bool, true, false, cond, List, ◌∷◌, length, Option, Some, None, is_some, Ok, Err, refl, sym, ap, ◌∙◌, subst, inl, inr, ◌⊎◌, arith}
 use Rattle.std.specs.Prelude.{not, ◌||◌, ◌&&◌}
 use Rattle.std.specs.BTreeMap.{insert_entry}
 use Rattle.std.specs.Cmp.Lexicographic.{slice_cmp}
 use Rattle.std.specs.List.{list_any}
-use Rattle.std.specs.Map.{lookup}
 use Rattle.std.specs.Ordering.{nat_cmp}
-use Rattle.std.proofs.lemmas.Bool.{true≢false, cond-true, or_left, or_cases, cases_Bool}
+use Rattle.std.proofs.lemmas.Bool.{true≢false, or_cases, cases_Bool}
 use Rattle.slab.specs.Slab.{Slab, with_value}
 use Rattle.tl_types.specs.Same.{file_cmp, file_same, file_same-Decides}
 use Rattle.tl_types.specs.declared.file_id.FileId.{FileId}
 use Rattle.tl_types.specs.declared.record_id.RecordId.{RecordId}
 use Rattle.tl_model.specs.declared.reply.Reply.{Reply}
-use Rattle.tl_model.specs.Namespace.{PathOf, Node, dir, file, Names, last_part, with_name, with_outputs}
-use Rattle.tl_model.specs.Replies.{count_refusal, new_refusal, or_else, outputs_refusal, refusal_of}
-use Rattle.tl_model.specs.History.{is_file_node}
-use Rattle.tl_names.specs.declared.child.Child.{Child}
-use Rattle.tl_names.specs.declared.child.Child.TheVariants.{Dir, File}
-use Rattle.tl_names.specs.Pins.{PinList, IsAlone, HasFilesOnce, MakesFiles, PinsUpTo, PinsStandFor, names_file, pins_file, pin_in, pin_of}
+use Rattle.tl_model.specs.Namespace.{PathOf, Node, file, Names, last_part, with_name, with_outputs}
+use Rattle.tl_model.specs.Replies.{count_refusal, or_else, outputs_refusal, refusal_of}
+use Rattle.tl_names.specs.declared.child.Child.TheVariants.{File}
+use Rattle.tl_names.specs.Pins.{PinList, MakesFiles, PinsUpTo, PinsStandFor, names_file, pins_file, pin_in, pin_of}
 use Rattle.tl_names.specs.Standing.{StandsFor}
-use Rattle.tl_names.specs.Tables.{Children, Dirs, children_at, room_for, with_child, IsTree}
+use Rattle.tl_names.specs.Tables.{Children, Dirs, children_at, room_for, IsTree}
 use Rattle.tl_names.proofs.Entries.{inserted_here, inserted_apart}
 use Rattle.tl_names.proofs.Files.{by_file}
 use Rattle.tl_names.proofs.Made.{Makes, file_makes}

@@ -1,15 +1,15 @@
 -- Which files are named and pinned after a change of the list of names.
-use Rattle.std.proofs.Common.{◌≡◌, ℕ, Bool, true, false, cond, List, [], ◌∷◌, Option, Some, None, refl, sym, ap, ◌∙◌}
+use Rattle.std.proofs.Common.{◌≡◌, Bool, true, false, cond, [], ◌∷◌, Some, None, refl, sym, ap, ◌∙◌}
 use Rattle.std.specs.Prelude.{not, ◌||◌, ◌&&◌}
 use Rattle.std.specs.List.{list_any}
-use Rattle.std.proofs.lemmas.Bool.{true≢false, false≢true, cond-true, or_parts, or_left, or_from}
+use Rattle.std.proofs.lemmas.Bool.{true≢false, or_parts, or_left, or_from}
 use Rattle.std.proofs.lemmas.Option.{none-some}
 use Rattle.tl_types.specs.Same.{path_same, path_same-Decides, file_same, file_same-Decides}
 use Rattle.tl_types.specs.declared.file_id.FileId.{FileId}
-use Rattle.tl_model.specs.Namespace.{PathOf, Node, dir, file, Names, node_at, moved, with_moved, with_pin, with_pinned, without_name}
+use Rattle.tl_model.specs.Namespace.{PathOf, Node, dir, file, Names, node_at, with_moved, with_pin, with_pinned, without_name}
 use Rattle.tl_model.specs.History.{is_file_node, is_pinned_node}
 use Rattle.tl_names.specs.Standing.{HasEachOnce}
-use Rattle.tl_names.specs.Pins.{IsAlone, HasFilesOnce, names_file, pins_file, pin_of}
+use Rattle.tl_names.specs.Pins.{IsAlone, HasFilesOnce, names_file, pins_file}
 use Rattle.tl_names.proofs.Lookups.{absent_head}
 
 -- a list in which nothing has the path

@@ -1,10 +1,9 @@
 -- Where paths lead in the tree of directories, and what a change of some names leaves as it was.
-use Rattle.std.proofs.Common.{◌≡◌, ℕ, ◌+◌, ◌<◌, ◌≤◌, List, [], ◌∷◌, ◌++◌, length, Option, Some, None, Result, Ok, Err, refl, sym, ap, ◌∙◌, subst, arith, append_assoc, length-append}
-use Rattle.std.specs.Prelude.{reverse, IsSome}
+use Rattle.std.proofs.Common.{◌≡◌, ℕ, List, [], ◌∷◌, ◌++◌, Option, Some, None, Result, Ok, Err, refl, sym, ap, ◌∙◌, subst, append_assoc}
+use Rattle.std.specs.Prelude.{reverse}
 use Rattle.std.proofs.lemmas.List.{reverse-reverse}
 use mathlib.Core.List.{reverse-cons}
 use Rattle.tl_model.specs.declared.reply.Reply.{Reply}
-use Rattle.tl_model.specs.declared.reply.Reply.TheVariants.{NoSuch, NotDir}
 use Rattle.tl_model.specs.Namespace.{PathOf}
 use Rattle.tl_model.specs.Replies.{and_then}
 use Rattle.tl_names.specs.declared.child.Child.{Child}

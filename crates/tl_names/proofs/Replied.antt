@@ -1,12 +1,12 @@
 -- Walks and refusals by the tables are those by the names that they stand for.
-use Rattle.std.proofs.Common.{◌≡◌, ℕ, suc, ◌+◌, ◌-◌, ◌<◌, Bool, true, false, cond, List, [], ◌∷◌, ◌++◌, length, take, Option, Some, None, Result, Ok, Err, is_some, refl, sym, ap, ◌∙◌, arith}
+use Rattle.std.proofs.Common.{◌≡◌, ℕ, suc, ◌-◌, cond, List, [], ◌∷◌, ◌++◌, length, take, Option, Some, None, Result, Ok, Err, is_some, refl, sym, ap, ◌∙◌, arith}
 use Rattle.tl_model.specs.declared.reply.Reply.{Reply}
-use Rattle.tl_model.specs.declared.reply.Reply.TheVariants.{Exists, NoSuch, NotDir, NotFile}
-use Rattle.tl_model.specs.Namespace.{PathOf, Node, dir, file, Names, node_at, parent, last_part}
-use Rattle.tl_model.specs.Replies.{Found, and_then, walk_on, walk, want_dir, want_file, walk_to_parent, walk_to_file, refusal_of, or_else, refuse_where, new_refusal}
+use Rattle.tl_model.specs.declared.reply.Reply.TheVariants.{Exists}
+use Rattle.tl_model.specs.Namespace.{PathOf, Names, node_at, parent, last_part}
+use Rattle.tl_model.specs.Replies.{Found, and_then, walk_on, walk, want_dir, refusal_of, or_else, refuse_where, new_refusal}
 use Rattle.tl_names.specs.declared.child.Child.{Child}
 use Rattle.tl_names.specs.declared.child.Child.TheVariants.{Dir, File}
-use Rattle.tl_names.specs.Tables.{Dirs, child_at, found_child, step, walk_from, place, node_of, node_found, node_in, room_in, room_for}
+use Rattle.tl_names.specs.Tables.{Dirs, child_at, found_child, walk_from, place, node_of, node_found, node_in, room_in, room_for}
 use Rattle.tl_names.specs.Standing.{StandsFor}
 use Rattle.tl_names.proofs.Places.{below_place}
 

@@ -1,11 +1,10 @@
 -- A name is taken away, or a pin is set or cleared.
-use Rattle.std.proofs.Common.{◌≡◌, ℕ, ◌+◌, ◌<◌, ◌≤◌, zero, suc, Bool, true, false, cond, List, [], ◌∷◌, ◌++◌, length, Option, Some, None, is_some, Result, Ok, Err, refl, sym, ap, ◌∙◌, subst, inl, inr, ◌⊎◌, arith, get_or}
+use Rattle.std.proofs.Common.{◌≡◌, ℕ, ◌+◌, ◌<◌, ◌≤◌, suc, Bool, true, false, cond, List, [], ◌∷◌, ◌++◌, length, Option, Some, None, Result, Ok, Err, refl, sym, ap, ◌∙◌, subst, inl, inr, ◌⊎◌, arith, get_or}
 use Rattle.std.specs.Prelude.{◌==◌, ◌||◌, ◌&&◌, nat_lt, IsSome, IsOk, is_ok, slice_set, unwrap_or}
 use Rattle.std.specs.BTreeMap.{insert_entry}
 use Rattle.std.specs.Cmp.Lexicographic.{slice_cmp}
 use Rattle.std.specs.List.{list_any}
-use Rattle.std.specs.List.Sorted.{IsStrictlySortedBy}
-use Rattle.std.specs.Map.{lookup, keys_of, remove_entry}
+use Rattle.std.specs.Map.{lookup, remove_entry}
 use Rattle.std.specs.Option.{option_map}
 use Rattle.std.specs.Ordering.{nat_cmp}
 use Rattle.std.specs.Str.{bytes_eq}
@@ -20,15 +19,15 @@ use Rattle.tl_model.specs.declared.command.Command.TheVariants.{Delete, Pin, Unp
 use Rattle.tl_model.specs.declared.record.Record.{Record}
 use Rattle.tl_model.specs.declared.reply.Reply.{Reply}
 use Rattle.tl_model.specs.declared.reply.Reply.TheVariants.{Fine, NotEmpty}
-use Rattle.tl_model.specs.Namespace.{PathOf, Node, dir, file, Names, node_at, children, parent, last_part, with_pin, with_pinned, without_name}
-use Rattle.tl_model.specs.Replies.{Found, and_then, delete_refusal, is_full, refusal_of, unless, walk, walk_to_file}
+use Rattle.tl_model.specs.Namespace.{PathOf, dir, file, Names, node_at, children, parent, last_part, with_pin, with_pinned, without_name}
+use Rattle.tl_model.specs.Replies.{Found, and_then, is_full, refusal_of, unless, walk_to_file}
 use Rattle.tl_model.specs.History.{is_file_node, is_pinned_node}
 use Rattle.tl_names.specs.declared.child.Child.{Child}
 use Rattle.tl_names.specs.declared.child.Child.TheVariants.{Dir, File}
 use Rattle.tl_names.specs.Answers.{Answers, tables}
-use Rattle.tl_names.specs.Pins.{PinList, HasFilesOnce, PinsStandFor, names_file, pins_file, pin_in, pin_of}
+use Rattle.tl_names.specs.Pins.{PinList, PinsStandFor, names_file, pins_file, pin_in, pin_of}
 use Rattle.tl_names.specs.Standing.{HasEachOnce, StandsFor}
-use Rattle.tl_names.specs.Tables.{Children, Dirs, children_at, child_at, file_of, found_child, node_found, node_in, place, with_child, without_child, IsKnown, IsTree}
+use Rattle.tl_names.specs.Tables.{Children, Dirs, children_at, child_at, file_of, node_found, place, with_child, without_child, IsKnown, IsTree}
 use Rattle.tl_names.proofs.Answered.{file_refuses, file_same_walk, kept_answers, same_count, walk_refuses}
 use Rattle.tl_names.proofs.Ascending.{Ascends}
 use Rattle.tl_names.proofs.Changes.{OneChanged, IsLeaf, LeafChanged, leaf_changed}
@@ -37,10 +36,10 @@ use Rattle.tl_names.proofs.Files.{by_file}
 use Rattle.tl_names.proofs.Kept.{NamesChanged, child_set, empty_leaf, file_leaf, name_pinned, name_removed, no_leaf, set_one, stands_changed, unset_one, with_ascends, without_ascends}
 use Rattle.tl_names.proofs.Listed.{count_same}
 use Rattle.tl_names.proofs.Outputs.{pin_absent}
-use Rattle.tl_names.proofs.Pinned.{any_split, file_found, file_gone, pin_here, pin_others, pinned_files, pinned_files_once, same_file, without_files_once}
-use Rattle.tl_names.proofs.Places.{LastStep, below_place, known_place, last_step}
+use Rattle.tl_names.proofs.Pinned.{any_split, file_found, file_gone, pin_here, pin_others, pinned_files, pinned_files_once, without_files_once}
+use Rattle.tl_names.proofs.Places.{LastStep, known_place, last_step}
 use Rattle.tl_names.proofs.Replied.{found_as, parts_again, walk_same}
-use Rattle.tl_names.proofs.Trees.{IsFree, same_name, same_tree, set_apart, set_known, tree_changed}
+use Rattle.tl_names.proofs.Trees.{same_name, same_tree, set_apart, set_known, tree_changed}
 
 -- where a path that isn't `/` names something
 pub record At (dirs : Dirs) (path : PathOf) (d : ℕ) (x : Child) : Type 0 where

@@ -1,5 +1,5 @@
 -- The directories stay a tree when one name changes.
-use Rattle.std.proofs.Common.{◌≡◌, ℕ, ◌<◌, Bool, true, false, List, length, get_or, Option, Some, None, refl, sym, ap, ◌∙◌, subst, inl, inr, ◌⊎◌}
+use Rattle.std.proofs.Common.{◌≡◌, ℕ, Bool, true, false, List, Option, Some, None, refl, sym, ap, ◌∙◌, subst, inl, inr, ◌⊎◌}
 use Rattle.std.specs.Prelude.{IsSome, slice_set, unwrap_or, []}
 use Rattle.std.specs.Map.{lookup}
 use Rattle.std.specs.Str.{bytes_eq}
@@ -7,7 +7,7 @@ use Rattle.std.proofs.lemmas.Bool.{cases_eq, true≢false}
 use Rattle.std.proofs.lemmas.List.{get_or-set_same, get_or-set_other}
 use Rattle.std.proofs.lemmas.Slice.Eq.{bytes_eq-Decides}
 use Rattle.tl_names.specs.declared.child.Child.{Child}
-use Rattle.tl_names.specs.declared.child.Child.TheVariants.{Dir, File}
+use Rattle.tl_names.specs.declared.child.Child.TheVariants.{Dir}
 use Rattle.tl_names.specs.Tables.{Children, Dirs, children_at, child_at, IsKnown, IsTree}
 use Rattle.tl_names.proofs.Ascending.{Ascends}
 use Rattle.tl_names.proofs.Changes.{OneChanged}

@@ -1,5 +1,5 @@
 -- A walk, one component further.
-use Rattle.std.proofs.Common.{◌≡◌, ℕ, ◌+◌, ◌<◌, ◌≤◌, List, [], ◌∷◌, length, take, drop, get_or, Option, Some, Result, refl, sym, ap, ◌∙◌, arith, length-take}
+use Rattle.std.proofs.Common.{◌≡◌, ℕ, ◌+◌, ◌<◌, ◌≤◌, List, [], length, take, drop, get_or, Some, Result, sym, ap, ◌∙◌, arith, length-take}
 use Rattle.std.specs.Prelude.{slice_get}
 use Rattle.std.proofs.lemmas.List.{drop_more, get_or-take}
 use Rattle.std.proofs.lemmas.Option.{get_or_from_slice_get}
@@ -7,7 +7,7 @@ use Rattle.tl_model.specs.declared.reply.Reply.{Reply}
 use Rattle.tl_model.specs.Namespace.{PathOf}
 use Rattle.tl_model.specs.Replies.{and_then}
 use Rattle.tl_names.specs.declared.child.Child.{Child}
-use Rattle.tl_names.specs.Tables.{Dirs, place, step, walk_from}
+use Rattle.tl_names.specs.Tables.{Dirs, step, walk_from}
 
 pub part_of_front : (path : PathOf) (len i : ℕ) (part : List ℕ) → i < len → slice_get path i ≡ Some part → get_or (take len path) i [] ≡ part
 part_of_front path len i part within found = get_or-take len path i [] within ∙ get_or_from_slice_get path i part [] found

@@ -1,5 +1,5 @@
 -- How a command is answered by the tables.
-use Rattle.std.specs.Prelude.{◌≡◌, ℕ, ◌+◌, ◌≤◌, Bool, true, false, length, List}
+use Rattle.std.specs.Prelude.{◌≡◌, ℕ, ◌+◌, ◌≤◌, Bool, true, false, length}
 use Rattle.tl_model.specs.declared.command.Command.{Command}
 use Rattle.tl_model.specs.declared.command.Command.TheVariants.{Put, Job, Read, Delete, Mkdir, Rename, Pin, Unpin, List as list, Stat, Free}
 use Rattle.tl_model.specs.declared.reply.Reply.{Reply}

@@ -1,8 +1,7 @@
 -- What a walk of the names finds.
-use Rattle.std.specs.Prelude.{Result, Ok, Err}
-use Rattle.tl_model.specs.declared.reply.Reply.{Reply}
+use Rattle.std.specs.Prelude.{Ok, Err}
 use Rattle.tl_model.specs.declared.reply.Reply.TheVariants as reply
-use Rattle.tl_model.specs.Namespace.{Node, dir, file}
+use Rattle.tl_model.specs.Namespace.{dir, file}
 use Rattle.tl_model.specs.Replies as replies
 use Rattle.tl_names.specs.declared.found.Found.{Found}
 use Rattle.tl_names.specs.declared.found.Found.TheVariants.{Dir, File, NoSuch, NotDir}

@@ -1,5 +1,5 @@
 -- Whether all that a move takes along has a path.
-use Rattle.std.specs.Prelude.{ℕ, zero, suc, ◌+◌, ◌-◌, nat_lt, Bool, true, false, ◌&&◌, List, length}
+use Rattle.std.specs.Prelude.{ℕ, zero, suc, ◌-◌, nat_lt, Bool, true, false, ◌&&◌, List, length}
 use Rattle.std.specs.List.{list_all, flat_map}
 use Rattle.tl_types.specs.Path.{slash_before}
 use Rattle.tl_model.specs.Namespace.{PathOf}

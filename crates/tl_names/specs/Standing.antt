@@ -1,9 +1,5 @@
 -- When the tables stand for names.
-use Rattle.std.specs.Prelude.{◌≡◌, ℕ, ◌≤◌, ◌∷◌, [], List, Bool, true, false, Option, Some, None, if◌then◌else◌, count_by}
-use Rattle.std.specs.List.{list_any}
-use Rattle.std.specs.Map.{lookup}
-use Rattle.tl_types.specs.Same.{file_same}
-use Rattle.tl_types.specs.declared.file_id.FileId.{FileId}
+use Rattle.std.specs.Prelude.{◌≡◌, ◌∷◌, [], None}
 use Rattle.tl_model.specs.Namespace.{PathOf, Names, node_at}
 use Rattle.tl_names.specs.Tables.{Dirs, node_in}
 

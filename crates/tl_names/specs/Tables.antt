@@ -94,9 +94,11 @@ room_for dirs (part ∷ rest) = and_then (place dirs (parent (part ∷ rest))) (
 
 -- ---- changes
 
+-- this name in a directory stands for this from now on
 abbrev pub with_child : Dirs → ℕ → List ℕ → Child → Dirs
 with_child dirs d name child = slice_set dirs d (Some (insert_entry (slice_cmp nat_cmp) (children_at dirs d) name child))
 
+-- this name in a directory is gone
 abbrev pub without_child : Dirs → ℕ → List ℕ → Dirs
 without_child dirs d name = slice_set dirs d (Some (remove_entry (bytes_eq name) (children_at dirs d)))
 
@@ -108,15 +110,6 @@ put_in dirs name child (Err refusal) = dirs
 
 abbrev pub put_at : Dirs → PathOf → Child → Dirs
 put_at dirs path child = put_in dirs (last_part path) child (place dirs (parent path))
-
--- the name at a path is gone
-abbrev pub take_from : Dirs → List ℕ → Result Child Reply → Dirs
-take_from dirs name (Ok (Dir d)) = without_child dirs d name
-take_from dirs name (Ok (File f pinned)) = dirs
-take_from dirs name (Err refusal) = dirs
-
-abbrev pub take_at : Dirs → PathOf → Dirs
-take_at dirs path = take_from dirs (last_part path) (place dirs (parent path))
 
 -- ---- what always holds
 

@@ -12,7 +12,8 @@ mod moves;
 mod names;
 mod pinning;
 mod pins;
+#[cfg(test)]
+mod tests;
 
-pub use child::Child;
 pub use found::Found;
 pub use names::Names;

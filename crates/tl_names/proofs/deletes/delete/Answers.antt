@@ -1,4 +1,4 @@
-use Rattle.std.proofs.Common.{Ok, Err, None, ◌≡◌, ◌<◌, length, sym, ap, ◌∙◌, inl, inr, arith}
+use Rattle.std.proofs.Common.{Ok, ◌≡◌, length, sym, ap, ◌∙◌, inr, arith}
 use Rattle.std.specs.Map.{remove_entry}
 use Rattle.std.specs.Str.{bytes_eq}
 use Rattle.std.proofs.lemmas.Bool.{true≢false}

@@ -1,4 +1,4 @@
-use Rattle.std.proofs.Common.{Ok, Err, sym, ap, ◌∙◌}
+use Rattle.std.proofs.Common.{Ok, ap}
 use Rattle.tl_names.proofs.Taken.{above_there, not_file, not_refused}
 use Rattle.tl_names.proofs.dirs.above.Goals as goal
 

@@ -1,4 +1,4 @@
-use Rattle.std.proofs.Common.{Ok, Err, sym, ap, ◌∙◌}
+use Rattle.std.proofs.Common.{Ok, sym, ap, ◌∙◌}
 use Rattle.tl_names.proofs.Looked.{list_dir, list_file, list_refused}
 use Rattle.tl_names.proofs.looks.list.Goals as goal
 

@@ -1,4 +1,4 @@
-use Rattle.std.proofs.Common.{Ok, Err, sym, ap, ◌∙◌}
+use Rattle.std.proofs.Common.{Ok, sym, ap, ◌∙◌}
 use Rattle.tl_names.proofs.Looked.{stat_dir, stat_file, stat_refused}
 use Rattle.tl_names.proofs.looks.stat.Goals as goal
 

@@ -1,13 +1,6 @@
-use Rattle.std.proofs.Common.{rules, length, ◌+◌, false, Some, None, ◌≡◌, ◌<◌, ◌∙◌, ap, sym, subst, arith}
-use Rattle.std.specs.BTreeMap.{insert_entry}
-use Rattle.std.specs.Cmp.Lexicographic.{slice_cmp}
-use Rattle.std.specs.Map.{remove_entry}
-use Rattle.std.specs.Ordering.{nat_cmp}
-use Rattle.std.specs.Str.{bytes_eq}
-use Rattle.slab.specs.Slab.{with_value}
+use Rattle.std.proofs.Common.{rules, length, ◌+◌, false, Some, None, ◌≡◌, sym, arith}
 use Rattle.tl_model.specs.Namespace.{last_part, with_name}
 use Rattle.tl_names.specs.declared.child.Child.TheVariants.{File}
-use Rattle.tl_names.specs.Tables.{IsKnown, children_at}
 use Rattle.tl_names.proofs.Outputs.{added_makes, makes_more, output, output_node, refused_here, refused_later}
 use Rattle.tl_names.proofs.Restored.{file_restored_after, known_after, restored_after}
 use Rattle.tl_names.proofs.Rooms.{room_found, room_known}

@@ -1,4 +1,4 @@
-use Rattle.std.proofs.Common.{◌≡◌, sym, ap, ◌∙◌}
+use Rattle.std.proofs.Common.{sym, ap, ◌∙◌}
 use Rattle.tl_names.proofs.Making.{job_inputs, job_made, job_refused, no_first}
 use Rattle.tl_names.proofs.makes.job.Goals as goal
 

@@ -1,4 +1,4 @@
-use Rattle.std.proofs.Common.{◌≡◌, sym, ap, ◌∙◌}
+use Rattle.std.proofs.Common.{sym, ◌∙◌}
 use Rattle.tl_names.proofs.Making.{mkdir_made, mkdir_refused}
 use Rattle.tl_names.proofs.makes.mkdir.Goals as goal
 

@@ -1,4 +1,4 @@
-use Rattle.std.proofs.Common.{◌≡◌, sym, ap, ◌∙◌}
+use Rattle.std.proofs.Common.{sym, ap, ◌∙◌}
 use Rattle.tl_names.proofs.Making.{put_made, put_refused}
 use Rattle.tl_names.proofs.makes.put.Goals as goal
 

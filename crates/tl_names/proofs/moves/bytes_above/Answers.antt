@@ -1,4 +1,4 @@
-use Rattle.std.proofs.Common.{◌≡◌, ℕ, ◌+◌, ◌-◌, ◌<◌, ◌≤◌, ◌∙◌, length, take, sym, ap, arith}
+use Rattle.std.proofs.Common.{◌≡◌, ◌+◌, ◌-◌, ◌≤◌, ◌∙◌, length, take, sym, ap, arith}
 use Rattle.tl_names.specs.Moves.{bytes_of}
 use Rattle.tl_names.proofs.Movable.{bytes_limit, bytes_more, front_bytes}
 use Rattle.tl_names.proofs.moves.bytes_above.Goals as goal

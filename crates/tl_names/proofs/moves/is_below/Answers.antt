@@ -1,5 +1,5 @@
-use Rattle.std.proofs.Common.{◌≡◌, ◌<◌, ◌∙◌, length, sym, arith}
-use Rattle.tl_names.proofs.Movable.{below_taken, parts_are, parts_differ, parts_not, taken_more, too_short}
+use Rattle.std.proofs.Common.{◌≡◌, length, arith}
+use Rattle.tl_names.proofs.Movable.{below_taken, parts_are, parts_differ, parts_not, taken_more}
 use Rattle.tl_names.proofs.moves.is_below.Goals as goal
 
 pub returns-then-ne : goal.returns-then-ne

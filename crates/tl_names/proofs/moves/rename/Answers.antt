@@ -1,13 +1,13 @@
-use Rattle.std.proofs.Common.{true, false, Ok, Err, ◌≡◌, ℕ, ◌+◌, ◌-◌, ◌<◌, ◌≤◌, length, take, sym, ap, ◌∙◌, subst, arith}
+use Rattle.std.proofs.Common.{◌≡◌, ◌-◌, ◌≤◌, length, sym, ap, ◌∙◌, subst, arith}
 use Rattle.std.specs.BTreeMap.{insert_entry}
 use Rattle.std.specs.Cmp.Lexicographic.{slice_cmp}
 use Rattle.std.specs.Map.{remove_entry}
 use Rattle.std.specs.Ordering.{nat_cmp}
 use Rattle.std.specs.Str.{bytes_eq}
 use Rattle.slab.specs.Slab.{with_value}
-use Rattle.tl_model.specs.Namespace.{last_part, parent}
+use Rattle.tl_model.specs.Namespace.{parent}
 use Rattle.tl_names.specs.Moves.{bytes_of, child_fits}
-use Rattle.tl_names.specs.Tables.{IsKnown, child_at, children_at, place}
+use Rattle.tl_names.specs.Tables.{IsKnown, child_at, children_at}
 use Rattle.tl_names.proofs.Movable.{bytes_limit, front_bytes, path_limits}
 use Rattle.tl_names.proofs.Moved.{moved_by, rename_done, rename_into_itself, rename_no_room, rename_too_deep, rename_unwalked}
 use Rattle.tl_names.proofs.Places.{known_place}

@@ -1,4 +1,4 @@
-use Rattle.std.proofs.Common.{Ok, Err, None, ◌≡◌, length, sym, ap, ◌∙◌}
+use Rattle.std.proofs.Common.{sym, ap, ◌∙◌}
 use Rattle.tl_model.specs.Namespace.{parent}
 use Rattle.tl_names.proofs.Places.{known_place}
 use Rattle.std.specs.BTreeMap.{insert_entry}

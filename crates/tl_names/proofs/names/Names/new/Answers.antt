@@ -1,4 +1,4 @@
-use Rattle.std.proofs.Common.{Some, [], ap, ◌∙◌, subst}
+use Rattle.std.proofs.Common.{Some, subst}
 use Rattle.slab.specs.Slab.{Updates}
 use Rattle.tl_names.proofs.Begun.{first_stands, first_tree, is_first}
 use Rattle.tl_names.proofs.names.Names.new.Goals as goal
