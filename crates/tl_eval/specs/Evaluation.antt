@@ -1,6 +1,5 @@
 -- A machine as it is seen: what it will answer, and how far it has come.
-use Rattle.std.specs.Prelude.{◌≡◌, ◌≤◌, ◌<◌, ◌+◌, ℕ, Bool, true, false, List, [], Result, IsErr}
-use Rattle.tl_types.specs.declared.no_memory.NoMemory.{NoMemory}
+use Rattle.std.specs.Prelude.{◌≡◌, ◌≤◌, ◌<◌, ◌+◌, ℕ, Bool, true, false, List, []}
 use Rattle.tl_types.specs.declared.outcome.Outcome.{Outcome}
 use Rattle.tl_eval.specs.declared.machine.Slice.{Slice}
 use Rattle.tl_eval.specs.declared.machine.Slice.TheVariants.{More, Done}
@@ -16,11 +15,15 @@ pub record Evaluation : Type 0 where
   pub is_answered : Bool
   pub has_failed : Bool
 
+-- a machine that memory ran out for
+abbrev pub failed : Evaluation
+failed = record { outcomes = []; total = 0; entered = 0; is_answered = false; has_failed = true }
+
 abbrev pub seen : State → Evaluation
 seen (Going r) = record { outcomes = will_answer r; total = will_enter r; entered = has_entered r; is_answered = false; has_failed = false }
 seen (Over end) = record { outcomes = end.outcomes.items; total = end.entered; entered = end.entered; is_answered = false; has_failed = false }
 seen (Answered n) = record { outcomes = []; total = n; entered = n; is_answered = true; has_failed = false }
-seen Failed = record { outcomes = []; total = 0; entered = 0; is_answered = false; has_failed = true }
+seen Failed = failed
 
 abbrev pub IsSound : State → Type 0
 IsSound (Going r) = IsUnderWay r
@@ -34,7 +37,3 @@ Answers old units More new = (new ≡ record old { entered = old.entered + units
 Answers old units (Done outcomes) new =
     (outcomes.items ≡ old.outcomes) × (old.total ≤ old.entered + units)
     × (new ≡ record { outcomes = []; total = old.total; entered = old.total; is_answered = true; has_failed = false })
-
--- for want of memory, as before
-abbrev pub StaysFailed : Result Slice NoMemory → Evaluation → Type 0
-StaysFailed result new = IsErr result × (new.has_failed ≡ true)

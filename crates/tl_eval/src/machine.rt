@@ -1,5 +1,5 @@
-ghost use Rattle.std.specs.Prelude.{◌≡◌, ◌≤◌, true, false, length, All, IfOk, OnErr};
-ghost use Rattle.tl_eval.specs.Evaluation.{Answers, IsSound, StaysFailed, seen};
+ghost use Rattle.std.specs.Prelude.{◌≡◌, ◌≤◌, true, false, length, All, IfOk, IsErr, OnErr};
+ghost use Rattle.tl_eval.specs.Evaluation.{Answers, IsSound, failed, seen};
 ghost use Rattle.tl_eval.specs.Running.{IsUnderWay};
 ghost use Rattle.tl_lang.specs.Job.{job_mean, job_entered};
 ghost use Rattle.tl_lang.specs.Kinds.{IsOutcome, KindsHold};
@@ -78,8 +78,8 @@ impl Machine {
         requires units { 1 ≤ units }
         requires going { self.old.is_answered ≡ false }
         ensures answer { IfOk result (λ slice. Answers self.old units slice self.new) }
-        ensures no_memory { OnErr result (self.new.has_failed ≡ true) }
-        ensures failed { self.old.has_failed ≡ true → StaysFailed result self.new }
+        ensures no_memory { OnErr result (self.new ≡ failed) }
+        ensures failed { self.old.has_failed ≡ true → IsErr result }
     {
         match mem::replace(&mut self.state, State::Failed) {
             State::Going(running) => {
