@@ -1,0 +1,3 @@
+pub mod FromDepot
+pub mod Load
+pub mod Vault
