@@ -1,0 +1,8 @@
+//! The records of accepted puts and jobs: which stand, and which files each has read.
+#![tactic(auto)]
+
+mod graph;
+mod slot;
+
+pub use graph::{Graph, RECORDS_LIMIT};
+pub use slot::Slot;
