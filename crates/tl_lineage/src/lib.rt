@@ -3,6 +3,8 @@
 
 mod graph;
 mod slot;
+#[cfg(test)]
+mod tests;
 
 pub use graph::{Graph, RECORDS_LIMIT};
 pub use slot::Slot;
