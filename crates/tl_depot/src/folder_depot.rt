@@ -1,0 +1,120 @@
+ghost use Rattle.std.specs.Prelude.{◌≡◌, ◌≤◌, vec_len, IfOk};
+
+use crate::folder_ticket::FolderTicket;
+use std::alloc::{AllocError, Global};
+use std::fs::{self, File};
+use std::io::{self, ErrorKind, Read, Write};
+use std::rt::Files;
+use tl_io::{Depot, DepotError};
+
+/// A depot over a folder: each save makes one file, named by the handle, `-` and the handle's count
+/// of saves, in decimal. A file that stands there under that name, as from an earlier run in the
+/// same folder, is overwritten. Two depots at work in one folder need two handles.
+#[derive(Drop)]
+pub struct FolderDepot<'a, R> {
+    rt: &'a R,
+    folder: String,
+    handle: u8,
+    saved: u64,
+    faults: u64,
+}
+
+impl<'a, R: Files> FolderDepot<'a, R> {
+    /// A depot that has saved nothing. The folder need not be there.
+    pub fn new(rt: &'a R, folder: String, handle: u8) -> FolderDepot<'a, R>
+        ensures { ⟦<FolderDepot<'a, R> as Depot>⟧.faults result ≡ 0 }
+    {
+        FolderDepot {
+            rt,
+            folder,
+            handle,
+            saved: 0,
+            faults: 0,
+        }
+    }
+}
+
+impl<'a, R: Files> Depot for FolderDepot<'a, R> {
+    type Ticket = FolderTicket;
+
+    ghost faults = { λ d. d.faults };
+
+    /// Makes the folder where it is missing. A file that can't be written is a fault.
+    fn save(&mut self, alloc: Global, bytes: &[u8]) -> Result<FolderTicket, DepotError> {
+        let ticket = FolderTicket {
+            handle: self.handle,
+            counter: self.saved,
+        };
+        let path = path_of(alloc, self.folder.as_str(), ticket)?;
+        if write_file(self.rt, self.folder.as_str(), path.as_str(), bytes).is_err() {
+            self.faults = self.faults.saturating_add(1);
+            return Err(DepotError::Failed);
+        }
+        self.saved = self.saved.saturating_add(1);
+        Ok(ticket)
+    }
+
+    /// A file that can't be read is a fault.
+    fn load(
+        &mut self,
+        alloc: Global,
+        ticket: &FolderTicket,
+        limit: usize,
+    ) -> Result<Vec<u8>, DepotError> {
+        let path = path_of(alloc, self.folder.as_str(), *ticket)?;
+        let loaded = read_file(alloc, self.rt, path.as_str(), limit);
+        if loaded == Err(DepotError::Failed) {
+            self.faults = self.faults.saturating_add(1);
+        }
+        loaded
+    }
+}
+
+// Where the file of a ticket is.
+fn path_of(alloc: Global, folder: &str, ticket: FolderTicket) -> Result<String, AllocError> {
+    let handle = ticket.handle;
+    let counter = ticket.counter;
+    format!(in alloc; "{folder}/{handle}-{counter}")
+}
+
+// Makes the folder where it is missing, and the file of these bytes.
+fn write_file<R: Files>(rt: &R, folder: &str, path: &str, bytes: &[u8]) -> io::Result<()> {
+    fs::create_dir_all(rt, folder)?;
+    File::create(rt, path)?.write_all(bytes)
+}
+
+// The first `limit` bytes of a file, or all where they are fewer.
+fn read_file<R: Files>(
+    alloc: Global,
+    rt: &R,
+    path: &str,
+    limit: usize,
+) -> Result<Vec<u8>, DepotError>
+    ensures { IfOk result (λ bytes. vec_len bytes ≤ limit) }
+{
+    let Ok(file) = File::open(rt, path) else {
+        return Err(DepotError::Failed);
+    };
+    read_front(alloc, file, limit)
+}
+
+// The first `limit` bytes that a reader gives, or all where they are fewer.
+fn read_front<F: Read + Drop>(
+    alloc: Global,
+    mut reader: F,
+    limit: usize,
+) -> Result<Vec<u8>, DepotError>
+    ensures { IfOk result (λ bytes. vec_len bytes ≤ limit) }
+{
+    let mut bytes = Vec::new(alloc);
+    let mut piece = [0u8; 4096];
+    'pieces: while bytes.len() < limit {
+        let room = piece.len().min(limit - bytes.len());
+        match reader.read(&mut piece[..room]) {
+            Ok(0) => break,
+            Ok(n) => bytes.extend_from_slice(&piece[..n])?,
+            Err(_) => return Err(DepotError::Failed),
+        }
+    }
+    Ok(bytes)
+}
