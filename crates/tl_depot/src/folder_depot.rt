@@ -1,4 +1,5 @@
 ghost use Rattle.std.specs.Prelude.{◌≡◌, ◌≤◌, vec_len, IfOk};
+ghost use Rattle.tl_io.specs.Counts.{more};
 
 use crate::folder_ticket::FolderTicket;
 use std::alloc::{AllocError, Global};
@@ -47,7 +48,7 @@ impl<'a, R: Files> Depot for FolderDepot<'a, R> {
         };
         let path = path_of(alloc, self.folder.as_str(), ticket)?;
         if write_file(self.rt, self.folder.as_str(), path.as_str(), bytes).is_err() {
-            self.faults = self.faults.saturating_add(1);
+            self.faults = one_more(self.faults);
             return Err(DepotError::Failed);
         }
         self.saved = self.saved.saturating_add(1);
@@ -64,10 +65,17 @@ impl<'a, R: Files> Depot for FolderDepot<'a, R> {
         let path = path_of(alloc, self.folder.as_str(), *ticket)?;
         let loaded = read_file(alloc, self.rt, path.as_str(), limit);
         if loaded == Err(DepotError::Failed) {
-            self.faults = self.faults.saturating_add(1);
+            self.faults = one_more(self.faults);
         }
         loaded
     }
+}
+
+// A count after one more fault. It stands still at its last value.
+fn one_more(faults: u64) -> u64
+    ensures { result ≡ more faults 1 }
+{
+    faults.saturating_add(1)
 }
 
 // Where the file of a ticket is.
