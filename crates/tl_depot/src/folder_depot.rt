@@ -1,12 +1,12 @@
-ghost use Rattle.std.specs.Prelude.{◌≡◌, ◌≤◌, vec_len, IfOk};
-ghost use Rattle.tl_io.specs.Counts.{more};
+ghost use Rattle.std.specs.Prelude.{◌≡◌, ◌≤◌, take, vec_len, IfOk, IsTrue, OnOk};
+ghost use Rattle.tl_io.specs.Counts.{more, Rises};
 
 use crate::folder_ticket::FolderTicket;
 use std::alloc::{AllocError, Global};
 use std::fs::{self, File};
 use std::io::{self, ErrorKind, Read, Write};
 use std::rt::Files;
-use tl_io::{Depot, DepotError};
+use tl_io::{Depot, DepotError, Ticket};
 
 /// A depot over a folder: each save makes one file, named by the handle, `-` and the handle's count
 /// of saves, in decimal. A file that stands there under that name, as from an earlier run in the
@@ -41,7 +41,12 @@ impl<'a, R: Files> Depot for FolderDepot<'a, R> {
     ghost faults = { λ d. d.faults };
 
     /// Makes the folder where it is missing. A file that can't be written is a fault.
-    fn save(&mut self, alloc: Global, bytes: &[u8]) -> Result<FolderTicket, DepotError> {
+    fn save(&mut self, alloc: Global, bytes: &[u8]) -> Result<FolderTicket, DepotError>
+        ensures content { IfOk result (λ ticket. IsTrue ⟦<FolderTicket as Ticket>⟧.tells → ⟦<FolderTicket as Ticket>⟧.content ticket ≡ bytes.now) }
+        ensures failed { result ≡ Err DepotError.Failed → Rises (⟦<FolderDepot<'a, R> as Depot>⟧.faults self.old) (⟦<FolderDepot<'a, R> as Depot>⟧.faults self.new) }
+        ensures never_falls { ⟦<FolderDepot<'a, R> as Depot>⟧.faults self.old ≤ ⟦<FolderDepot<'a, R> as Depot>⟧.faults self.new }
+        ensures fine { OnOk result (⟦<FolderDepot<'a, R> as Depot>⟧.faults self.new ≡ ⟦<FolderDepot<'a, R> as Depot>⟧.faults self.old) }
+    {
         let ticket = FolderTicket {
             handle: self.handle,
             counter: self.saved,
@@ -61,7 +66,13 @@ impl<'a, R: Files> Depot for FolderDepot<'a, R> {
         alloc: Global,
         ticket: &FolderTicket,
         limit: usize,
-    ) -> Result<Vec<u8>, DepotError> {
+    ) -> Result<Vec<u8>, DepotError>
+        ensures content { IfOk result (λ bytes. IsTrue ⟦<FolderTicket as Ticket>⟧.tells → bytes.items ≡ take limit (⟦<FolderTicket as Ticket>⟧.content ticket.now)) }
+        ensures failed { result ≡ Err DepotError.Failed → Rises (⟦<FolderDepot<'a, R> as Depot>⟧.faults self.old) (⟦<FolderDepot<'a, R> as Depot>⟧.faults self.new) }
+        ensures never_falls { ⟦<FolderDepot<'a, R> as Depot>⟧.faults self.old ≤ ⟦<FolderDepot<'a, R> as Depot>⟧.faults self.new }
+        ensures fine { OnOk result (⟦<FolderDepot<'a, R> as Depot>⟧.faults self.new ≡ ⟦<FolderDepot<'a, R> as Depot>⟧.faults self.old) }
+        ensures limit { IfOk result (λ bytes. vec_len bytes ≤ limit) }
+    {
         let path = path_of(alloc, self.folder.as_str(), *ticket)?;
         let loaded = read_file(alloc, self.rt, path.as_str(), limit);
         if loaded == Err(DepotError::Failed) {
