@@ -8,3 +8,4 @@ pub mod Order
 pub mod Saves
 pub mod Made
 pub mod Ready
+pub mod Next

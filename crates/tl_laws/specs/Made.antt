@@ -50,7 +50,7 @@ output-at : (rs more : List Record) (n out : ℕ) (o : Option Record) → slice_
 output-at rs more n out None e h = absurd (cc)
 output-at rs more n out (Some r) e h = ap (λ o. has_output o out) (get-left rs more n (get-within rs n r e) ∙ e) ∙ h
 
-output-stays : (rs more : List Record) (f : FileId) → IsOutputOf rs f → IsOutputOf (rs ++ more) f
+pub output-stays : (rs more : List Record) (f : FileId) → IsOutputOf rs f → IsOutputOf (rs ++ more) f
 output-stays rs more f h = output-at rs more f.rec.0 f.out (slice_get rs f.rec.0) refl h
 
 made-stays : (rs more : List Record) (node : Node) → IsMade rs node → IsMade (rs ++ more) node

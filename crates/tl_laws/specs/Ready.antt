@@ -117,7 +117,7 @@ chosen-has answer test (x ∷ xs) (suc i) r at chose t =
 
 -- ---- a task whose input is missing
 
-any-output : (p : FileId → Bool) (id : RecordId) (k n o : ℕ) → p (record { rec = id; out = o }) ≡ true → k ≤ o → o < k + n → list_any p (files_from id k n) ≡ true
+pub any-output : (p : FileId → Bool) (id : RecordId) (k n o : ℕ) → p (record { rec = id; out = o }) ≡ true → k ≤ o → o < k + n → list_any p (files_from id k n) ≡ true
 any-output p id k zero o h low high = absurd (omega arith)
 any-output p id k (suc n) o h low high = elim (below_or_not k o) [
   | inl less ↦ or-right (p (record { rec = id; out = k })) (list_any p (files_from id (k + 1) n)) (any-output p id (k + 1) n o h (omega arith) (omega arith))

@@ -139,7 +139,7 @@ saved-next : {T : Type 0} (judge : Judge T) (events : List (Event T)) (actor : A
 saved-next judge events actor act f paid (inl saved) = saved-stays (act_with {U = Unit {0}} (λ _. tt) act) f (saved_as (without_tickets events) f) saved
 saved-next judge events actor act f paid (inr owes) = pays-saved (owed judge events) f actor act (saved_as (without_tickets events) f) owes paid
 
-permitted-reply : {T : Type 0} (judge : Judge T) (header : Header) (events : List (Event T)) (actor : Actor) (command : Command T) (reply : Reply) →
+pub permitted-reply : {T : Type 0} (judge : Judge T) (header : Header) (events : List (Event T)) (actor : Actor) (command : Command T) (reply : Reply) →
     is_permitted judge header events (without_tickets events) actor (Call command reply) ≡ true →
     reply_same (reply_to (names (without_tickets events)) (length (records (without_tickets events))) command) reply ≡ true
 permitted-reply judge header events actor command reply ok =
