@@ -4,6 +4,8 @@ use Rattle.std.specs.List.{AllByRecursion}
 use Rattle.std.specs.Option.{option_and_then}
 use Rattle.std.proofs.lemmas.Bool.{and_from, and_parts, lt-ltb}
 use Rattle.std.proofs.lemmas.Bool.Decides.{Decides-eqb}
+use Rattle.std.proofs.lemmas.Slice.Eq.{bytes_eq-Decides}
+use Rattle.sha2.specs.Sha256.{sha256}
 use Rattle.tl_types.specs.Outcome.{outcome_size, digest_of}
 use Rattle.tl_types.specs.Same.{actor_same, actor_same-Decides, file_same, file_same-Decides, digest_same-Decides}
 use Rattle.tl_types.specs.declared.actor.Actor.{Actor}
@@ -32,7 +34,7 @@ use Rattle.tl_laws.specs.Numbers.{get-last, get-within}
 use Rattle.tl_laws.specs.Refusals.{put_made as put-number}
 use Rattle.tl_laws.specs.Tickets.{records-with, reply_after-with}
 use Rattle.tl_core.specs.Residents.{Residents}
-use Rattle.tl_core.specs.Puts.{KeptPut, kept_put, kept_by, as_saved}
+use Rattle.tl_core.specs.Puts.{KeptPut, kept_put, kept_by, as_saved, IsWhole}
 use Rattle.tl_core.specs.Room.{under_way}
 use Rattle.tl_core.specs.State.{Stands, IsHeld, IsSound, IsJobAt, undropped_judge}
 use Rattle.tl_core.specs.Called.{put_made, with_saved, is_free, IsFitting}
@@ -130,6 +132,7 @@ called_plain tells content header events residents spare room actor command repl
             record-stays (records past) (record_made reply (command_with {U = Unit {0}} (λ _. tt) command) (names past)) f.rec.0 (kind.Put f.rec) old.0,
             value-stays content events actor command reply f (get-within (records past) f.rec.0 (kind.Put f.rec) old.0) ∙ old.1,
           );
+      whole = λ f put k. s.whole f put (sym (kept f (kept_put events f)) ∙ k);
       jobs = jobs-stay tells content header events residents spare room actor command reply s;
       room = let few : under_way (without_tickets (record { actor = actor; act = Call command reply } ∷ events)) ≤ 48 =
           under_way-few (without_tickets (record { actor = actor; act = Call command reply } ∷ events)) in omega arith;
@@ -180,6 +183,21 @@ puts-if content events actor path len digest ticket made f o put false e is old 
       value-stays content events actor (Put path len digest ticket) (Made made) f (get-within (records past) f.rec.0 (kind.Put f.rec) was.0) ∙ was.1,
     )
 
+whole-if : {T : Type 0} (tells : Bool) (content : T → List ℕ) (path : PathOf) (len : ℕ) (digest : Digest) (ticket : T) (o : Option (KeptPut T)) (put : KeptPut T) (b : Bool) →
+    len ≤ 1048576 → (tells ≡ true → put_has_its_bytes (Put path len digest (content ticket)) ≡ true) → (o ≡ Some put → IsWhole tells content put) →
+    (if b then Some (record { ticket = ticket; len = len; digest = digest }) else o) ≡ Some put → IsWhole tells content put
+whole-if tells content path len digest ticket o put true fits bytes old k =
+    let it : record { ticket = ticket; len = len; digest = digest } ≡ put = cc in
+    subst (λ (p : KeptPut _). IsWhole tells content p) it (
+      fits,
+      λ tell.
+          let parts = and_parts (len == length (content ticket)) (digest_is (Value (content ticket)) digest) (bytes tell) in (
+            sym ((Decides-eqb len (length (content ticket))).0 parts.0),
+            (bytes_eq-Decides (sha256 (content ticket)) digest.0).0 parts.1,
+          ),
+    )
+whole-if tells content path len digest ticket o put false fits bytes old k = old k
+
 called_put : {T : Type 0} (tells : Bool) (content : T → List ℕ) (header : Header) (events : List (Event T)) (residents : Residents) (spare room : ℕ) (actor : Actor) (path : PathOf) (len : ℕ) (digest : Digest) (ticket : T) (made : RecordId) →
     Stands tells content header events residents spare → Made made ≡ reply_after (calls_of events) (Put path len digest ticket) → actor.0 < 8 → is_idle (without_tickets events) actor ≡ true →
     len ≤ 1048576 → (tells ≡ true → put_has_its_bytes (Put path len digest (content ticket)) ≡ true) → 48 ≤ room →
@@ -222,6 +240,7 @@ called_put tells content header events residents spare room actor path len diges
       saved = λ g. ap (λ (o : Option _). if file_same g f then Some (record { size = len; digest = digest }) else o) (s.saved g)
           ∙ saved-if (file_same g f) (record { ticket = ticket; len = len; digest = digest }) (kept_put events g);
       puts = λ g put k. puts-if content events actor path len digest ticket made g (kept_put events g) put (file_same g f) refl at (s.puts g put) k;
+      whole = λ g put k. whole-if tells content path len digest ticket (kept_put events g) put (file_same g f) fits bytes (s.whole g put) k;
       jobs = λ a claim k. jobs-stay tells content header events residents spare room actor command (Made made) s a claim
           (sym (same_either (actor_same a actor) (open_claim (without_tickets (e ∷ events)) a)) ∙ k);
       room = let few : under_way (without_tickets (next ∷ e ∷ events)) ≤ 48 = under_way-few (without_tickets (next ∷ e ∷ events)) in omega arith;

@@ -207,6 +207,7 @@ done tells content header events residents spare actor worker made blocks s is k
       narrow = s.narrow;
       saved = s.saved;
       puts = s.puts;
+      whole = s.whole;
       jobs = λ a other e. s.jobs a other (none_or (actor_same a actor) (open_claim past a) other e);
       room = let r : under_way past ≤ spare = s.room in omega arith;
     }

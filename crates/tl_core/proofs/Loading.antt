@@ -151,6 +151,7 @@ brought tells content header events residents spare room actor worker block dige
       narrow = s.narrow;
       saved = s.saved;
       puts = s.puts;
+      whole = s.whole;
       jobs = λ a claim e. s.jobs a claim (sym (same_either (actor_same a actor) (open_claim past a)) ∙ sym (same_either (actor_same a actor) _) ∙ e);
       room = let few : under_way (without_tickets (serve ∷ load ∷ events)) ≤ 48 = under_way-few (without_tickets (serve ∷ load ∷ events)) in omega arith;
     }

@@ -1,5 +1,6 @@
 -- What a look finds.
-use Rattle.std.proofs.Common.{◌≡◌, ℕ, Bool, true, false, ◌||◌, List, ◌∷◌, Option, Some, None, is_some, option_map, refl, sym, ap, ◌∙◌, subst}
+use Rattle.std.proofs.Common.{◌≡◌, ◌≤◌, ℕ, Bool, true, false, ◌||◌, List, ◌∷◌, length, Option, Some, None, is_some, option_map, refl, sym, ap, ◌∙◌, subst}
+use Rattle.sha2.specs.Sha256.{sha256}
 use Rattle.tl_types.specs.Block.{FileOutcome}
 use Rattle.tl_types.specs.Outcome.{digest_of}
 use Rattle.tl_types.specs.declared.actor.Actor.{Actor}
@@ -56,10 +57,19 @@ pub saved_by : {T : Type 0} (tells : Bool) (content : T → List ℕ) (header : 
     (f : FileId) (put : KeptPut T) (saved : Saved T) → Stands tells content header events residents spare → kept_put events f ≡ Some put → IsCopy content put saved →
     IsSavedOf tells content (record { header = header; events = events; residents = residents }) f saved
 saved_by tells content header events residents spare f put (save.Held ticket len digest) s here copy =
-    let known : SavedAs = as_saved put in (
+    let known : SavedAs = as_saved put in
+    let whole = s.whole f put here in (
       known,
       s.saved f ∙ ap (option_map as_saved) here,
-      ((λ i. record { size = sym copy.1 i; digest = sym copy.2 i }), λ tell. (s.puts f put here).1 ∙ ap (λ (bytes : List ℕ). Value bytes) (sym copy.0)),
+      (
+        (λ i. record { size = sym copy.1 i; digest = sym copy.2 i }),
+        subst (λ (n : ℕ). n ≤ 1048576) (sym copy.1) whole.0,
+        λ tell. (
+          (s.puts f put here).1 ∙ ap (λ (bytes : List ℕ). Value bytes) (sym copy.0),
+          ap length copy.0 ∙ (whole.1 tell).0 ∙ sym copy.1,
+          ap sha256 copy.0 ∙ (whole.1 tell).1 ∙ ap (λ (d : Digest). d.0) (sym copy.2),
+        ),
+      ),
     )
 saved_by tells content header events residents spare f put (save.Failed code) s here copy = absurd copy
 

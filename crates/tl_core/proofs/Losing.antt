@@ -67,6 +67,7 @@ lost tells content header events residents spare room actor worker s known enoug
       narrow = s.narrow;
       saved = s.saved;
       puts = s.puts;
+      whole = s.whole;
       jobs = λ a claim is. s.jobs a claim (sym (same_either (actor_same a actor) (open_claim past a)) ∙
           none_or (is_on worker (if actor_same a actor then open_claim past a else open_claim past a)) (if actor_same a actor then open_claim past a else open_claim past a) claim is);
       room = let few : under_way (record { actor = actor; act = Lose worker } ∷ past) ≤ 48 = under_way-few (record { actor = actor; act = Lose worker } ∷ past) in omega arith;

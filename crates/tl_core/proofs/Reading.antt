@@ -80,6 +80,7 @@ served tells content header events residents spare actor digest read it s is her
       narrow = s.narrow;
       saved = s.saved;
       puts = s.puts;
+      whole = s.whole;
       jobs = λ a claim is. s.jobs a claim (sym (same_either (actor_same a actor) (open_claim past a)) ∙ is);
       room = let r : under_way past ≤ spare = s.room in omega arith;
     }
@@ -105,6 +106,7 @@ shut tells content header events residents spare actor read s is known =
       narrow = s.narrow;
       saved = s.saved;
       puts = s.puts;
+      whole = s.whole;
       jobs = λ a claim is. s.jobs a claim (sym (same_either (actor_same a actor) (open_claim past a)) ∙ is);
       room = let r : under_way past ≤ spare = s.room in omega arith;
     }

@@ -232,6 +232,7 @@ claimed tells content header events residents spare room actor worker made s n k
       narrow = s.narrow;
       saved = s.saved;
       puts = s.puts;
+      whole = s.whole;
       jobs = λ a claim e. open-after (actor_same a actor) (record { worker = worker; made = made }) (open_claim past a) claim past e (it.it, it.at, it.job) (s.jobs a claim);
       room = let few : under_way (record { actor = actor; act = Claim worker made } ∷ past) ≤ 48 = under_way-few (record { actor = actor; act = Claim worker made } ∷ past) in omega arith;
     }

@@ -57,6 +57,7 @@ back tells content header events residents spare actor claim s is known =
       narrow = s.narrow;
       saved = s.saved;
       puts = s.puts;
+      whole = s.whole;
       jobs = λ a other is. s.jobs a other (none_or (actor_same a actor) (open_claim past a) other is);
       room = let r : under_way past ≤ spare = s.room in omega arith;
     }

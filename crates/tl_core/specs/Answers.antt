@@ -1,5 +1,6 @@
 -- What each turn of a cluster answers, and what it leaves.
-use Rattle.std.specs.Prelude.{◌≡◌, ℕ, Bool, true, false, List, [], ◌∷◌, ◌++◌, Option, Some, None}
+use Rattle.std.specs.Prelude.{◌≡◌, ◌≤◌, ℕ, Bool, true, false, List, [], ◌∷◌, ◌++◌, length, Option, Some, None}
+use Rattle.sha2.specs.Sha256.{sha256}
 use Rattle.tl_types.specs.Block.{FileOutcome}
 use Rattle.tl_types.specs.Outcome.{digest_of, outcome_size}
 use Rattle.tl_types.specs.declared.actor.Actor.{Actor}
@@ -32,10 +33,12 @@ with_event actor act state = record state { events = record { actor = actor; act
 abbrev pub with_resident : {T : Type 0} → WorkerId → FileOutcome → State T → State T
 with_resident worker block state = record state { residents = state.residents ++ record { worker = worker; block = block } ∷ [] }
 
--- a saved value was saved with this size and this digest, and where it tells it is for this outcome
+-- A saved value was saved with this size and this digest, and is no longer than a file may be. Where it tells, it is for this
+-- outcome, and its bytes have this size and this digest.
 abbrev pub IsSavedFor : {T : Type 0} → Bool → (T → List ℕ) → SavedAs → Outcome → Saved T → Type 0
 IsSavedFor tells content known outcome (save.Held ticket len digest) =
-    (known ≡ record { size = len; digest = digest }) × (tells ≡ true → outcome ≡ Value (content ticket))
+    (known ≡ record { size = len; digest = digest }) × (len ≤ 1048576)
+    × (tells ≡ true → (outcome ≡ Value (content ticket)) × (length (content ticket) ≡ len) × (sha256 (content ticket) ≡ digest.0))
 IsSavedFor tells content known outcome (save.Failed code) =
     (known ≡ record { size = 0; digest = record { 0 = digest_of (Fault code) } }) × (tells ≡ true → outcome ≡ Fault code)
 

@@ -1,6 +1,7 @@
 -- What is kept of a put: its ticket, with the length and the digest of its bytes.
-use Rattle.std.specs.Prelude.{◌≡◌, ℕ, List, [], ◌∷◌, Option, Some, None, if◌then◌else◌}
+use Rattle.std.specs.Prelude.{◌≡◌, ◌≤◌, ℕ, Bool, true, List, [], ◌∷◌, length, Option, Some, None, if◌then◌else◌}
 use Rattle.std.specs.Borrow.{Bor}
+use Rattle.sha2.specs.Sha256.{sha256}
 use Rattle.tl_types.specs.Same.{file_same}
 use Rattle.tl_types.specs.declared.digest.Digest.{Digest}
 use Rattle.tl_types.specs.declared.file_id.FileId.{FileId}
@@ -37,6 +38,11 @@ kept_put (e ∷ events) f = kept_after e.act f (kept_put events f)
 -- the size and the digest of a put's file
 abbrev pub as_saved : {T : Type 0} → KeptPut T → SavedAs
 as_saved put = record { size = put.len; digest = put.digest }
+
+-- a put is no longer than a file may be, and where the bytes are told, its length and digest are theirs
+abbrev pub IsWhole : {T : Type 0} → Bool → (T → List ℕ) → KeptPut T → Type 0
+IsWhole tells content put =
+    (put.len ≤ 1048576) × (tells ≡ true → (length (content put.ticket) ≡ put.len) × (sha256 (content put.ticket) ≡ put.digest.0))
 
 -- what references to a put's ticket, its length and its digest show
 abbrev pub seen : {T : Type 0} → (Bor T × ℕ × Digest) → KeptPut T

@@ -20,7 +20,7 @@ use Rattle.tl_model.specs.Residency.{place, saved_as}
 use Rattle.tl_model.specs.Rules.{Judge, legal_judge, can_drop, is_lawful, holds, put_of, has_digest}
 use Rattle.tl_core.specs.declared.resident.Resident.{Resident}
 use Rattle.tl_core.specs.Residents.{Residents, place_in}
-use Rattle.tl_core.specs.Puts.{KeptPut, kept_put, as_saved}
+use Rattle.tl_core.specs.Puts.{KeptPut, kept_put, as_saved, IsWhole}
 use Rattle.tl_core.specs.Room.{under_way}
 
 -- the header, the events with the newest first, and what is in the workers' memories
@@ -80,6 +80,7 @@ pub record Stands {T : Type 0} (tells : Bool) (content : T → List ℕ) (header
   -- a put's file holds the bytes of its ticket
   pub puts : (f : FileId) (put : KeptPut T) → kept_put events f ≡ Some put →
       (record_at (without_tickets events) f.rec ≡ Some (kind.Put f.rec)) × (value (events_with content events) f ≡ outcome.Value (content put.ticket))
+  pub whole : (f : FileId) (put : KeptPut T) → kept_put events f ≡ Some put → IsWhole tells content put
   -- what is claimed is a job
   pub jobs : (actor : Actor) (claim : OpenClaim) → open_claim (without_tickets events) actor ≡ Some claim → IsJobAt (without_tickets events) claim.made
   -- what is under way can be ended without asking for memory

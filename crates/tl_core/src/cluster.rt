@@ -1,8 +1,9 @@
 ghost use Rattle.std.specs.Prelude.{◌≡◌, [], true, is_some, IfOk};
 ghost use Rattle.tl_types.specs.Block.{FileOutcome};
+ghost use Rattle.tl_types.specs.Outcome.{digest_of, outcome_size};
 ghost use Rattle.tl_types.specs.declared.file_id.FileId.{FileId};
 ghost use Rattle.tl_model.specs.Past.{events_with};
-ghost use Rattle.tl_model.specs.Residency.{is_resident};
+ghost use Rattle.tl_model.specs.Residency.{SavedAs, is_resident, saved_as};
 ghost use Rattle.tl_model.specs.Rules.{holds, is_lawful};
 ghost use Rattle.tl_model.specs.Values.{value};
 ghost use Rattle.tl_core.specs.Answers.{past_of};
@@ -57,7 +58,8 @@ impl<T: Ticket> Cluster<T> {
 
     /// What is true of every cluster: its journal is lawful, and legal but for what is said of drops
     /// where the bytes are told; the files of the held blocks are the resident ones; and where the
-    /// bytes are told, each block is what its file holds.
+    /// bytes are told, each block is what its file holds, and each saved size and digest are those of
+    /// what its file holds.
     pub fn stands(&self)
         ensures lawful { is_lawful self.now.header self.now.events ≡ true }
         ensures told { T.tells ≡ true →
@@ -66,6 +68,9 @@ impl<T: Ticket> Cluster<T> {
         ensures of { (f : FileId) (block : FileOutcome) → held f self.now.residents ≡ Some block → block.file ≡ f }
         ensures values { (f : FileId) (block : FileOutcome) → held f self.now.residents ≡ Some block → T.tells ≡ true →
             block.outcome ≡ value (events_with T.content self.now.events) f }
+        ensures saved { (f : FileId) (known : SavedAs) → saved_as (past_of self.now) f ≡ Some known → T.tells ≡ true →
+            (known.size ≡ outcome_size (value (events_with T.content self.now.events) f))
+            × (known.digest.0 ≡ digest_of (value (events_with T.content self.now.events) f)) }
     {
         let _residents = &self.residents;
     }
