@@ -33,7 +33,7 @@ or-right : (a b : Bool) → b ≡ true → (a || b) ≡ true
 or-right true b h = refl
 or-right false b h = h
 
-difference : (j i : ℕ) → j < i → (d : ℕ) × (i ≡ suc (j + d))
+pub difference : (j i : ℕ) → j < i → (d : ℕ) × (i ≡ suc (j + d))
 difference j zero less = absurd (omega arith)
 difference zero (suc i) less = (i, (let e : suc i ≡ suc (0 + i) = omega arith in e))
 difference (suc j) (suc i) less = let d = difference j i (omega arith) in (d.0, (let e : suc i ≡ suc (suc j + d.0) = (let h : i ≡ suc (j + d.0) = d.1 in omega arith) in e))
@@ -69,33 +69,35 @@ not-true : (b : Bool) → (b ≡ true → ⊥) → b ≡ false
 not-true true never = absurd (never refl)
 not-true false never = refl
 
-at-head : (answer : Table Record Bool → Record → Bool) (made : RecordId) (x : Record) (xs : List Record) (b : Bool) → has_id made x ≡ b →
-    (b ≡ false → answer_at (has_id made) false (downward answer xs) ≡ answer_at (has_id made) false (downward answer xs)) →
-    answer_at (has_id made) false (downward answer (x ∷ xs)) ≡ (if b then answer (downward answer xs) x else answer_at (has_id made) false (downward answer xs))
-at-head answer made x xs b e h = ap (λ t. if t then answer (downward answer xs) x else answer_at (has_id made) false (downward answer xs)) e
+at-head : {A : Type 0} (otherwise : A) (answer : Table Record A → Record → A) (made : RecordId) (x : Record) (xs : List Record) (b : Bool) → has_id made x ≡ b →
+    answer_at (has_id made) otherwise (downward answer (x ∷ xs)) ≡ (if b then answer (downward answer xs) x else answer_at (has_id made) otherwise (downward answer xs))
+at-head otherwise answer made x xs b e = ap (λ t. if t then answer (downward answer xs) x else answer_at (has_id made) otherwise (downward answer xs)) e
 
--- the answer for a record is the one that is made from the table of the later ones
-answer-at-place : (answer : Table Record Bool → Record → Bool) (k : ℕ) (rs : List Record) (i : ℕ) (r : Record) (m : ℕ) → NumberedFrom k rs → slice_get rs i ≡ Some r → m ≡ k + i →
-    answer_at (has_id (record { 0 = m })) false (downward answer rs) ≡ answer (downward answer (after rs i)) r
-answer-at-place answer k [] i r m n at e = absurd (cc)
-answer-at-place answer k (x ∷ xs) zero r m n at e =
+answer-from : {A : Type 0} (otherwise : A) (answer : Table Record A → Record → A) (k : ℕ) (rs : List Record) (i : ℕ) (r : Record) (m : ℕ) → NumberedFrom k rs →
+    slice_get rs i ≡ Some r → m ≡ k + i → answer_at (has_id (record { 0 = m })) otherwise (downward answer rs) ≡ answer (downward answer (after rs i)) r
+answer-from otherwise answer k [] i r m n at e = absurd (cc)
+answer-from otherwise answer k (x ∷ xs) zero r m n at e =
     let same : x ≡ r = cc in
     let id : (id_of x).0 ≡ k + 0 = n 0 x refl in
     let number : m ≡ (id_of x).0 = omega arith in
-    at-head answer (record { 0 = m }) x xs true ((Decides-eqb m (id_of x).0).1 number) (λ h. refl) ∙ ap (answer (downward answer xs)) same
-answer-at-place answer k (x ∷ xs) (suc i) r m n at e =
+    at-head otherwise answer (record { 0 = m }) x xs true ((Decides-eqb m (id_of x).0).1 number) ∙ ap (answer (downward answer xs)) same
+answer-from otherwise answer k (x ∷ xs) (suc i) r m n at e =
     let id : (id_of x).0 ≡ k + 0 = n 0 x refl in
     let other : has_id (record { 0 = m }) x ≡ false =
     not-true (has_id (record { 0 = m }) x) (λ t. let h : m ≡ (id_of x).0 = (Decides-eqb m (id_of x).0).0 t in omega arith) in
-    at-head answer (record { 0 = m }) x xs false other (λ h. refl)
-    ∙ answer-at-place answer (k + 1) xs i r m (numbered-rest k x xs n) at (omega arith)
+    at-head otherwise answer (record { 0 = m }) x xs false other ∙ answer-from otherwise answer (k + 1) xs i r m (numbered-rest k x xs n) at (omega arith)
+
+-- the answer for the record at a place is the one that is made from the table of the later ones
+pub answer-at-place : {A : Type 0} (otherwise : A) (answer : Table Record A → Record → A) (rs : List Record) (i : ℕ) (r : Record) → Numbered rs → slice_get rs i ≡ Some r →
+    answer_at (has_id (id_of r)) otherwise (downward answer rs) ≡ answer (downward answer (after rs i)) r
+answer-at-place otherwise answer rs i r n at =
+    let from : NumberedFrom 0 rs = λ j x k. let e : (id_of x).0 ≡ j = ap (λ (id : RecordId). id.0) (n j x k) in omega arith in
+    let place : (id_of r).0 ≡ 0 + i = from i r at in
+    answer-from otherwise answer 0 rs i r (id_of r).0 from at place
 
 pub task-at : (past : Past) (i : ℕ) (r : Record) → Numbered (records past) → slice_get (records past) i ≡ Some r →
     is_task past (id_of r) ≡ task_among past (downward (task_among past) (after (records past) i)) r
-task-at past i r n at =
-    let from : NumberedFrom 0 (records past) = λ j x k. let e : (id_of x).0 ≡ j = ap (λ (id : RecordId). id.0) (n j x k) in omega arith in
-    let place : (id_of r).0 ≡ 0 + i = from i r at in
-    answer-at-place (task_among past) 0 (records past) i r (id_of r).0 from at place
+task-at past i r n at = answer-at-place false (task_among past) (records past) i r n at
 
 chosen-head : (test : Record → Bool) (x : Record) (b : Bool) (table : Table Record Bool) → list_any test (chosen table) ≡ true → list_any test (if b then x ∷ chosen table else chosen table) ≡ true
 chosen-head test x true table h = or-right (test x) (list_any test (chosen table)) h
@@ -106,7 +108,7 @@ chosen-first test x true table h t = or-left (test x) (list_any test (chosen tab
 chosen-first test x false table h t = absurd (cc)
 
 -- a record whose answer is yes is among those that the table chooses
-chosen-has : (answer : Table Record Bool → Record → Bool) (test : Record → Bool) (rs : List Record) (i : ℕ) (r : Record) → slice_get rs i ≡ Some r →
+pub chosen-has : (answer : Table Record Bool → Record → Bool) (test : Record → Bool) (rs : List Record) (i : ℕ) (r : Record) → slice_get rs i ≡ Some r →
     answer (downward answer (after rs i)) r ≡ true → test r ≡ true → list_any test (chosen (downward answer rs)) ≡ true
 chosen-has answer test [] i r at chose t = absurd (cc)
 chosen-has answer test (x ∷ xs) zero r at chose t =
@@ -166,7 +168,7 @@ missing-input past P (f ∷ fs) h is =
 same-head : (f : FileId) (xs : List FileId) → list_any (file_same f) (f ∷ xs) ≡ true
 same-head f xs = or-left (file_same f f) (list_any (file_same f) xs) ((file_same-Decides f f).1 refl)
 
-each-among : (xs : List FileId) → AllByRecursion (λ f. list_any (file_same f) xs ≡ true) xs
+pub each-among : (xs : List FileId) → AllByRecursion (λ f. list_any (file_same f) xs ≡ true) xs
 each-among [] = tt
 each-among (x ∷ xs) = (
   same-head x xs,
@@ -174,7 +176,7 @@ each-among (x ∷ xs) = (
       (λ f h. or-right (file_same f x) (list_any (file_same f) xs) h) xs (each-among xs),
 )
 
-all-both : {A : Type 0} (P Q : A → Type 0) (xs : List A) → AllByRecursion P xs → AllByRecursion Q xs → AllByRecursion (λ x. P x × Q x) xs
+pub all-both : {A : Type 0} (P Q : A → Type 0) (xs : List A) → AllByRecursion P xs → AllByRecursion Q xs → AllByRecursion (λ x. P x × Q x) xs
 all-both P Q [] ps qs = tt
 all-both P Q (x ∷ xs) ps qs = ((ps.0, qs.0), all-both P Q xs ps.1 qs.1)
 

@@ -40,7 +40,7 @@ saved-if : (b : Bool) (new : SavedAs) (o : Option SavedAs) → is_some o ≡ tru
 saved-if true new o h = refl
 saved-if false new o h = h
 
-saved-stays : (act : Act (Unit {0})) (f : FileId) (o : Option SavedAs) → is_some o ≡ true → is_some (saved_after act f o) ≡ true
+pub saved-stays : (act : Act (Unit {0})) (f : FileId) (o : Option SavedAs) → is_some o ≡ true → is_some (saved_after act f o) ≡ true
 saved-stays (Saved g size digest) f o h = saved-if (file_same f g) (record { size = size; digest = digest }) o h
 saved-stays (Call command reply) f o h = h
 saved-stays (Served g d) f o h = h
