@@ -1,0 +1,40 @@
+-- What is known of the past of a journal in which nothing is owed.
+use Rattle.std.proofs.Common.{◌≡◌, true, List, Some, sym, subst}
+use Rattle.std.specs.List.{AllByRecursion}
+use Rattle.std.proofs.lemmas.Bool.{and_parts}
+use Rattle.tl_types.specs.declared.file_id.FileId.{FileId}
+use Rattle.tl_types.specs.declared.record_id.RecordId.{RecordId}
+use Rattle.tl_model.specs.declared.event.Event.{Event}
+use Rattle.tl_model.specs.declared.header.Header.{Header}
+use Rattle.tl_model.specs.declared.record.Record.TheVariants as kind
+use Rattle.tl_model.specs.Past.{Past, without_tickets}
+use Rattle.tl_model.specs.History.{names, records, record_at}
+use Rattle.tl_model.specs.Residency.{is_saved}
+use Rattle.tl_model.specs.Rules.{Judge, all_permitted, is_quiet, holds}
+use Rattle.tl_laws.specs.Numbers.{Numbered, all-numbered}
+use Rattle.tl_laws.specs.Order.{HasOlderInputs, all-ordered}
+use Rattle.tl_laws.specs.Made.{IsMadeOf, past-made}
+use Rattle.tl_laws.specs.Saves.{quiet-saves}
+use Rattle.tl_laws.specs.Tickets.{records-with}
+
+-- records are numbered, of older inputs; names and inputs are theirs; each put's file is saved
+pub record IsSound (past : Past) : Type 0 where
+  pub numbers : Numbered (records past)
+  pub older : AllByRecursion HasOlderInputs (records past)
+  pub made : IsMadeOf (names past) (records past)
+  pub saves : (f : FileId) (id : RecordId) → record_at past f.rec ≡ Some (kind.Put id) → f.out ≡ 0 → is_saved past f ≡ true
+
+pub past-numbered : {T : Type 0} (judge : Judge T) (header : Header) (events : List (Event T)) → all_permitted judge header events ≡ true →
+    Numbered (records (without_tickets events))
+past-numbered judge header events ok = subst Numbered (sym (records-with (λ _. tt) events)) (all-numbered judge header events ok)
+
+-- the past of a journal that a judge passes is sound
+pub sound-of : {T : Type 0} (judge : Judge T) (header : Header) (events : List (Event T)) → holds judge header events ≡ true → IsSound (without_tickets events)
+sound-of judge header events h =
+    let ok = (and_parts (all_permitted judge header events) (is_quiet judge events) h).0 in
+    record {
+      numbers = past-numbered judge header events ok;
+      older = subst (AllByRecursion HasOlderInputs) (sym (records-with (λ _. tt) events)) (all-ordered judge header events ok).older;
+      made = past-made judge header events ok;
+      saves = quiet-saves judge header events h;
+    }
