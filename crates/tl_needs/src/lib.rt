@@ -2,6 +2,8 @@
 //! empty body, and holds for whichever judge passes the journal: for lawful journals and for legal ones.
 #![tactic(auto)]
 
+mod needs;
 mod waits;
 
+pub use needs::{needed_are_kept, unneeded_stay_unneeded};
 pub use waits::{waited_for_are_as_urgent, waited_for_are_tasks};

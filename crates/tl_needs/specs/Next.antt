@@ -1,0 +1,223 @@
+-- What one event that is permitted leaves of a past: what was saved and done stays so, old files get no new name, who reads, reads
+-- what was named, and who runs was a task.
+use Rattle.std.proofs.Common.{◌≡◌, ◌<◌, inl, inr, Bool, true, false, ◌&&◌, ◌||◌, cond, if◌then◌else◌, List, [], ◌∷◌, ◌++◌, length, filter, Option, Some, None, option_map, refl, sym, ap, ◌∙◌, subst, append-nil}
+use Rattle.std.specs.List.{AllByRecursion, list_any}
+use Rattle.std.proofs.lemmas.Bool.{and_parts, or_left, or_right, or_cases}
+use Rattle.tl_types.specs.Same.{actor_same, record_same, record_same-Decides, file_same-Decides}
+use Rattle.tl_types.specs.declared.actor.Actor.{Actor}
+use Rattle.tl_types.specs.declared.file_id.FileId.{FileId}
+use Rattle.tl_types.specs.declared.record_id.RecordId.{RecordId}
+use Rattle.tl_types.specs.declared.worker_id.WorkerId.{WorkerId}
+use Rattle.tl_model.specs.declared.command.Command.{Command}
+use Rattle.tl_model.specs.declared.command.Command.TheVariants.{Read}
+use Rattle.tl_model.specs.declared.reply.Reply.{Reply}
+use Rattle.tl_model.specs.declared.reply.Reply.TheVariants.{Opened}
+use Rattle.tl_model.specs.declared.record.Record.{Record}
+use Rattle.tl_model.specs.declared.header.Header.{Header}
+use Rattle.tl_model.specs.declared.event.Act.{Act}
+use Rattle.tl_model.specs.declared.event.Act.TheVariants.{Call, Served, Shut, Claim, Done, Back, Lose, Free, Drop, Load, Save, Saved, Unsave, Collect}
+use Rattle.tl_model.specs.declared.event.Event.{Event}
+use Rattle.tl_model.specs.Past.{Past, act_with, command_with, without_tickets}
+use Rattle.tl_model.specs.Tables.{better, first_by}
+use Rattle.tl_model.specs.Replies.{reply_to, reply_same}
+use Rattle.tl_model.specs.History.{HistoryOf, calls_of, with_call, names_of, records_of, names, records, record_made, id_of, inputs_of, is_named, is_file_node}
+use Rattle.tl_model.specs.Actors.{OpenRead, OpenClaim, open_read, open_claim, read_after, read_after_call, claim_after, claim_after_loss, is_on, actors, reads_file, claims_record, is_read, is_running}
+use Rattle.tl_model.specs.Residency.{saved_as, is_saved, does, was_done, all_available}
+use Rattle.tl_model.specs.Plan.{is_task, can_run, ready, goes_before, next}
+use Rattle.tl_model.specs.Rules.{Judge, is_permitted, is_known_worker, may_claim, is_record}
+use Rattle.tl_laws.specs.Tickets.{reply_to-with}
+use Rattle.tl_laws.specs.Saves.{saved-stays, permitted-reply}
+use Rattle.tl_needs.specs.Named.{named-before, new-inputs-named, opened-is-named}
+
+pub record IsNext (past ahead : Past) : Type 0 where
+  pub saved : (f : FileId) → is_saved past f ≡ true → is_saved ahead f ≡ true
+  pub done : (made : RecordId) → was_done past made ≡ true → was_done ahead made ≡ true
+  pub named : (f : FileId) → f.rec.0 < length (records past) → is_named ahead f ≡ true → is_named past f ≡ true
+  pub read : (f : FileId) → is_read ahead f ≡ true → (is_read past f || is_named past f) ≡ true
+  pub running : (made : RecordId) → is_running ahead made ≡ true → (is_running past made || is_task past made) ≡ true
+  -- the records that are new, whose inputs were named
+  pub more : List Record
+  pub added : records ahead ≡ records past ++ more
+  pub inputs : AllByRecursion (λ r. AllByRecursion (λ f. is_named past f ≡ true) (inputs_of r)) more
+
+-- ---- over all actors
+
+any-or : {A : Type 0} (p q : A → Bool) (c : Bool) (xs : List A) → ((x : A) → p x ≡ true → (q x || c) ≡ true) → list_any p xs ≡ true → (list_any q xs || c) ≡ true
+any-or p q c [] each is = absurd (cc)
+any-or p q c (x ∷ xs) each is = elim (or_cases (p x) (list_any p xs) is) [
+  | inl here ↦ elim (or_cases (q x) c (each x here)) [
+    | inl h ↦ or_left (list_any q (x ∷ xs)) c (or_left (q x) (list_any q xs) h)
+    | inr h ↦ or_right (list_any q (x ∷ xs)) c h
+  ]
+  | inr later ↦ elim (or_cases (list_any q xs) c (any-or p q c xs each later)) [
+    | inl h ↦ or_left (list_any q (x ∷ xs)) c (or_right (q x) (list_any q xs) h)
+    | inr h ↦ or_right (list_any q (x ∷ xs)) c h
+  ]
+]
+
+-- ---- reads
+
+abbrev pub is_call : Act (Unit {0}) → Bool
+is_call (Call command reply) = true
+is_call _ = false
+
+read-kept : (act : Act (Unit {0})) (f : FileId) (o : Option OpenRead) → is_call act ≡ false → reads_file f (read_after act o) ≡ true → reads_file f o ≡ true
+read-kept (Call command reply) f o e h = absurd (cc)
+read-kept (Served g digest) f o e h = absurd (cc)
+read-kept (Shut g) f o e h = absurd (cc)
+read-kept act f o e h = h
+
+read-called : (reply : Reply) (command : Command (Unit {0})) (past : Past) (f : FileId) (o : Option OpenRead) →
+    reply_same (reply_to (names past) (length (records past)) command) reply ≡ true → reads_file f (read_after_call reply command o) ≡ true →
+    (reads_file f o || is_named past f) ≡ true
+read-called (Opened g) (Read path prio form) past f o same h =
+    let it : f ≡ g = (file_same-Decides f g).0 h in
+    or_right (reads_file f o) (is_named past f) (rw it (opened-is-named (Unit {0}) (names past) (length (records past)) path prio form g same))
+read-called (Opened g) command past f o same h = or_left (reads_file f o) (is_named past f) h
+read-called reply command past f o same h = or_left (reads_file f o) (is_named past f) h
+
+by-actor : {A : Type 0} (test : A → Bool) (c b : Bool) (new old : A) → (test new ≡ true → (test old || c) ≡ true) → test (if b then new else old) ≡ true → (test old || c) ≡ true
+by-actor test c true new old go h = go h
+by-actor test c false new old go h = or_left (test old) c h
+
+-- who reads after an event read before it, or reads what was named
+reads-next : (past : Past) (actor : Actor) (act : Act (Unit {0})) (f : FileId) →
+    ((o : Option OpenRead) → reads_file f (read_after act o) ≡ true → (reads_file f o || is_named past f) ≡ true) →
+    is_read (record { actor = actor; act = act } ∷ past) f ≡ true → (is_read past f || is_named past f) ≡ true
+reads-next past actor act f go h =
+    any-or (λ a. reads_file f (open_read (record { actor = actor; act = act } ∷ past) a)) (λ a. reads_file f (open_read past a)) (is_named past f) actors
+    (λ a k. by-actor (reads_file f) (is_named past f) (actor_same a actor) (read_after act (open_read past a)) (open_read past a) (go (open_read past a)) k) h
+
+-- ---- claims
+
+claim-lost : (made : RecordId) (b : Bool) (o : Option OpenClaim) → claims_record made (if b then None else o) ≡ true → claims_record made o ≡ true
+claim-lost made true o h = absurd (cc)
+claim-lost made false o h = h
+
+if-same : {A : Type 0} (b : Bool) (x : A) → (if b then x else x) ≡ x
+if-same true x = refl
+if-same false x = refl
+
+abbrev pub claim_next : Bool → Act (Unit {0}) → Option OpenClaim → Option OpenClaim
+claim_next b act o = claim_after_loss act (if b then claim_after act o else o)
+
+claim-kept : (b : Bool) (act : Act (Unit {0})) (made : RecordId) (o : Option OpenClaim) (c : Bool) →
+    ((worker : WorkerId) (other : RecordId) → act ≡ Claim worker other → record_same made other ≡ true → c ≡ true) →
+    claims_record made (claim_next b act o) ≡ true → (claims_record made o || c) ≡ true
+claim-kept true (Claim worker other) made o c new h = or_right (claims_record made o) c (new worker other refl h)
+claim-kept true (Done worker other) made o c new h = absurd (cc)
+claim-kept true (Back other) made o c new h = absurd (cc)
+claim-kept true (Lose worker) made o c new h = or_left (claims_record made o) c (claim-lost made (is_on worker o) o h)
+claim-kept false (Lose worker) made o c new h = or_left (claims_record made o) c (claim-lost made (is_on worker o) o h)
+claim-kept true act made o c new h = or_left (claims_record made o) c h
+claim-kept false act made o c new h = or_left (claims_record made o) c h
+
+-- who runs after an event ran before it, or is what the event claims
+running-next : (past : Past) (actor : Actor) (act : Act (Unit {0})) (made : RecordId) →
+    ((worker : WorkerId) (other : RecordId) → act ≡ Claim worker other → record_same made other ≡ true → is_task past made ≡ true) →
+    is_running (record { actor = actor; act = act } ∷ past) made ≡ true → (is_running past made || is_task past made) ≡ true
+running-next past actor act made new h =
+    any-or (λ a. claims_record made (open_claim (record { actor = actor; act = act } ∷ past) a)) (λ a. claims_record made (open_claim past a)) (is_task past made) actors
+    (λ a k. claim-kept (actor_same a actor) act made (open_claim past a) (is_task past made) new k) h
+
+-- ---- what is next is a task
+
+passes-at : (p : Record → Bool) (x : Record) (xs : List Record) (b : Bool) → p x ≡ b → AllByRecursion (λ r. p r ≡ true) xs → AllByRecursion (λ r. p r ≡ true) (cond b (x ∷ xs) xs)
+passes-at p x xs true e all = (e, all)
+passes-at p x xs false e all = all
+
+each-passes : (p : Record → Bool) (xs : List Record) → AllByRecursion (λ r. p r ≡ true) (filter p xs)
+each-passes p [] = tt
+each-passes p (x ∷ xs) = passes-at p x (filter p xs) (p x) refl (each-passes p xs)
+
+either-holds : (P : Record → Type 0) (b : Bool) (s x : Record) → P s → P x → P (if b then s else x)
+either-holds P true s x p q = p
+either-holds P false s x p q = q
+
+better-holds : (P : Record → Type 0) (before : Record → Record → Bool) (x : Record) (o : Option Record) → P x → ((s : Record) → o ≡ Some s → P s) → P (better before x o)
+better-holds P before x None p later = p
+better-holds P before x (Some s) p later = either-holds P (before s x) s x (later s refl) p
+
+first-holds : (P : Record → Type 0) (before : Record → Record → Bool) (xs : List Record) (s : Record) → AllByRecursion P xs → first_by before xs ≡ Some s → P s
+first-holds P before [] s all is = absurd (cc)
+first-holds P before (x ∷ xs) s all is =
+    let it : better before x (first_by before xs) ≡ s = cc in
+    subst P it (better-holds P before x (first_by before xs) all.0 (λ t e. first-holds P before xs t all.1 e))
+
+chosen-is : (past : Past) (made : RecordId) (o : Option Record) → ((s : Record) → o ≡ Some s → can_run past s ≡ true) → is_record (option_map id_of o) made ≡ true →
+    is_task past made ≡ true
+chosen-is past made None each is = absurd (cc)
+chosen-is past made (Some s) each is =
+    let it : id_of s ≡ made = (record_same-Decides (id_of s) made).0 is in
+    let can = and_parts _ (all_available past (inputs_of s)) (each s refl) in
+    ap (is_task past) (sym it) ∙ (and_parts (is_task past (id_of s)) _ can.0).0
+
+next-is-task : (past : Past) (made : RecordId) → is_record (next past) made ≡ true → is_task past made ≡ true
+next-is-task past made is =
+    chosen-is past made (first_by (goes_before past) (ready past))
+    (λ s e. first-holds (λ r. can_run past r ≡ true) (goes_before past) (ready past) s (each-passes (can_run past) (records past)) e) is
+
+-- ---- events
+
+call-next : (past : Past) (actor : Actor) (reply : Reply) (command : Command (Unit {0})) → reply_same (reply_to (names past) (length (records past)) command) reply ≡ true →
+    IsNext past (record { actor = actor; act = Call command reply } ∷ past)
+call-next past actor reply command same = record {
+  saved = λ f h. h;
+  done = λ made h. h;
+  named = λ f old is. named-before reply command (names past) (length (records past)) f same old is;
+  read = λ f h. reads-next past actor (Call command reply) f (λ o k. read-called reply command past f o same k) h;
+  running = λ made h. running-next past actor (Call command reply) made (λ worker other e k. absurd (cc)) h;
+  more = record_made reply command (names past);
+  added = refl;
+  inputs = new-inputs-named reply command (names past);
+}
+
+calls-same : (actor : Actor) (act : Act (Unit {0})) (calls : HistoryOf (Unit {0})) → is_call act ≡ false → with_call actor act calls ≡ calls
+calls-same actor (Call command reply) calls e = absurd (cc)
+calls-same actor act calls e = refl
+
+-- an event that is no call changes no name and adds no record
+other-next : (past : Past) (actor : Actor) (act : Act (Unit {0})) → is_call act ≡ false →
+    ((made : RecordId) (worker : WorkerId) (other : RecordId) → act ≡ Claim worker other → record_same made other ≡ true → is_task past made ≡ true) →
+    IsNext past (record { actor = actor; act = act } ∷ past)
+other-next past actor act e new =
+    let calls : calls_of (record { actor = actor; act = act } ∷ past) ≡ calls_of past = calls-same actor act (calls_of past) e in
+    record {
+      saved = λ f h. saved-stays act f (saved_as past f) h;
+      done = λ made h. or_right (does made act) (was_done past made) h;
+      named = λ f old is. subst (λ ns. list_any (λ entry. is_file_node f entry.1) ns ≡ true) (ap names_of calls) is;
+      read = λ f h. reads-next past actor act f (λ o k. or_left (reads_file f o) (is_named past f) (read-kept act f o e k)) h;
+      running = λ made h. running-next past actor act made (new made) h;
+      more = [];
+      added = ap records_of calls ∙ sym (append-nil (records past));
+      inputs = tt;
+    }
+
+-- an event that its rule permits
+pub permitted-next : {T : Type 0} (judge : Judge T) (header : Header) (events : List (Event T)) (actor : Actor) (act : Act T) →
+    is_permitted judge header events (without_tickets events) actor act ≡ true →
+    IsNext (without_tickets events) (record { actor = actor; act = act_with {U = Unit {0}} (λ _. tt) act } ∷ without_tickets events)
+permitted-next judge header events actor (Call command reply) ok =
+    let past : Past = without_tickets events in
+    call-next past actor reply (command_with {U = Unit {0}} (λ _. tt) command)
+    (ap (λ r. reply_same r reply) (reply_to-with (λ _. tt) (names past) (length (records past)) command) ∙ permitted-reply judge header events actor command reply ok)
+permitted-next judge header events actor (Claim worker made) ok =
+    let past : Past = without_tickets events in
+    let task : is_task past made ≡ true = next-is-task past made (and_parts (is_known_worker header worker && may_claim past actor) (is_record (next past) made) ok).1 in
+    other-next past actor (Claim worker made) refl
+    (λ mine w other e k.
+    let it : made ≡ other = cc in
+    let same : mine ≡ other = (record_same-Decides mine other).0 k in
+    ap (is_task past) (same ∙ sym it) ∙ task)
+permitted-next judge header events actor (Served g digest) ok = other-next (without_tickets events) actor (Served g digest) refl (λ made w other e k. absurd (cc))
+permitted-next judge header events actor (Shut g) ok = other-next (without_tickets events) actor (Shut g) refl (λ made w other e k. absurd (cc))
+permitted-next judge header events actor (Done worker r) ok = other-next (without_tickets events) actor (Done worker r) refl (λ made w other e k. absurd (cc))
+permitted-next judge header events actor (Back r) ok = other-next (without_tickets events) actor (Back r) refl (λ made w other e k. absurd (cc))
+permitted-next judge header events actor (Lose worker) ok = other-next (without_tickets events) actor (Lose worker) refl (λ made w other e k. absurd (cc))
+permitted-next judge header events actor (Free g) ok = other-next (without_tickets events) actor (Free g) refl (λ made w other e k. absurd (cc))
+permitted-next judge header events actor (Drop worker g) ok = other-next (without_tickets events) actor (Drop worker g) refl (λ made w other e k. absurd (cc))
+permitted-next judge header events actor (Load worker g) ok = other-next (without_tickets events) actor (Load worker g) refl (λ made w other e k. absurd (cc))
+permitted-next judge header events actor (Save g) ok = other-next (without_tickets events) actor (Save g) refl (λ made w other e k. absurd (cc))
+permitted-next judge header events actor (Saved g size digest) ok = other-next (without_tickets events) actor (Saved g size digest) refl (λ made w other e k. absurd (cc))
+permitted-next judge header events actor (Unsave g) ok = other-next (without_tickets events) actor (Unsave g) refl (λ made w other e k. absurd (cc))
+permitted-next judge header events actor (Collect r) ok = other-next (without_tickets events) actor (Collect r) refl (λ made w other e k. absurd (cc))
