@@ -1,5 +1,5 @@
 -- What isn't needed is never needed again, and what is needed is kept.
-use Rattle.std.proofs.Common.{◌≡◌, ℕ, suc, inl, inr, Bool, true, false, not, if◌then◌else◌, List, [], ◌∷◌, ◌++◌, slice_get, Option, Some, None, is_some, is_none, refl, sym, ap, ◌∙◌}
+use Rattle.std.proofs.Common.{◌≡◌, ℕ, suc, inl, inr, Bool, true, false, not, if◌then◌else◌, List, [], ◌∷◌, ◌++◌, slice_get, Option, Some, None, is_some, refl, sym, ap, ◌∙◌}
 use Rattle.std.proofs.lemmas.Bool.{and_parts, and_from, or_cases, not-true, false_from_ne_true, both_ways}
 use Rattle.tl_types.specs.Same.{record_same-Decides}
 use Rattle.tl_types.specs.declared.actor.Actor.{Actor}
@@ -15,11 +15,10 @@ use Rattle.tl_model.specs.History.{records, record_at, id_of}
 use Rattle.tl_model.specs.Residency.{collects, is_collected, is_kept}
 use Rattle.tl_model.specs.Plan.{has_id}
 use Rattle.tl_model.specs.Needs.{needed_among, is_needed}
-use Rattle.tl_model.specs.Rules.{Judge, is_permitted, all_permitted, broken}
+use Rattle.tl_model.specs.Rules.{Judge, is_permitted, all_permitted}
 use Rattle.tl_laws.specs.Numbers.{Numbered}
-use Rattle.tl_laws.specs.Permits.{permitted_of}
-use Rattle.tl_needs.specs.Sound.{past-numbered}
-use Rattle.tl_needs.specs.Next.{IsNext, permitted-next}
+use Rattle.tl_needs.specs.Sound.{permitted-before, permitted-last, past-numbered}
+use Rattle.tl_needs.specs.Next.{IsNext, event-next}
 use Rattle.tl_needs.specs.Unneeded.{at-ahead, needed-was}
 
 -- an accepted record that isn't needed
@@ -41,21 +40,12 @@ unneeded-next past ahead next n m made h =
           (ap (is_needed past) number ∙ needed-was past ahead next n m made.0 r.0 r.1 (ap (is_needed ahead) (sym number) ∙ k))),
     )
 
-permitted-before : {T : Type 0} (judge : Judge T) (header : Header) (e : Event T) (events : List (Event T)) → all_permitted judge header (e ∷ events) ≡ true →
-    all_permitted judge header events ≡ true
-permitted-before judge header e events ok = (and_parts (is_none (broken judge header events e)) (all_permitted judge header events) ok).1
-
-permitted-last : {T : Type 0} (judge : Judge T) (header : Header) (e : Event T) (events : List (Event T)) → all_permitted judge header (e ∷ events) ≡ true →
-    is_permitted judge header events (without_tickets events) e.actor e.act ≡ true
-permitted-last judge header e events ok =
-    (permitted_of judge header events e (and_parts (is_none (broken judge header events e)) (all_permitted judge header events) ok).0).1
-
 -- one more event that no rule refuses makes no unneeded record needed
 pub stays-unneeded : {T : Type 0} (judge : Judge T) (header : Header) (e : Event T) (events : List (Event T)) → all_permitted judge header (e ∷ events) ≡ true →
     (made : RecordId) → IsUnneeded (without_tickets events) made → IsUnneeded (without_tickets (e ∷ events)) made
 stays-unneeded judge header e events ok made h =
     unneeded-next (without_tickets events) (without_tickets (e ∷ events))
-    (permitted-next judge header events e.actor e.act (permitted-last judge header e events ok))
+    (event-next judge header e events ok)
     (past-numbered judge header events (permitted-before judge header e events ok)) (past-numbered judge header (e ∷ events) ok) made h
 
 -- and no later events do

@@ -5,3 +5,5 @@ pub mod Named
 pub mod Next
 pub mod Unneeded
 pub mod Later
+pub mod Makers
+pub mod Reach

@@ -24,9 +24,10 @@ use Rattle.tl_model.specs.History.{HistoryOf, calls_of, with_call, names_of, rec
 use Rattle.tl_model.specs.Actors.{OpenRead, OpenClaim, open_read, open_claim, read_after, read_after_call, claim_after, claim_after_loss, is_on, actors, reads_file, claims_record, is_read, is_running}
 use Rattle.tl_model.specs.Residency.{saved_as, is_saved, does, was_done, all_available}
 use Rattle.tl_model.specs.Plan.{is_task, can_run, ready, goes_before, next}
-use Rattle.tl_model.specs.Rules.{Judge, is_permitted, is_known_worker, may_claim, is_record}
+use Rattle.tl_model.specs.Rules.{Judge, all_permitted, is_permitted, is_known_worker, may_claim, is_record}
 use Rattle.tl_laws.specs.Tickets.{reply_to-with}
 use Rattle.tl_laws.specs.Saves.{saved-stays, permitted-reply}
+use Rattle.tl_needs.specs.Sound.{permitted-last}
 use Rattle.tl_needs.specs.Named.{named-before, new-inputs-named, opened-is-named}
 
 pub record IsNext (past ahead : Past) : Type 0 where
@@ -194,7 +195,7 @@ other-next past actor act e new =
     }
 
 -- an event that its rule permits
-pub permitted-next : {T : Type 0} (judge : Judge T) (header : Header) (events : List (Event T)) (actor : Actor) (act : Act T) →
+permitted-next : {T : Type 0} (judge : Judge T) (header : Header) (events : List (Event T)) (actor : Actor) (act : Act T) →
     is_permitted judge header events (without_tickets events) actor act ≡ true →
     IsNext (without_tickets events) (record { actor = actor; act = act_with {U = Unit {0}} (λ _. tt) act } ∷ without_tickets events)
 permitted-next judge header events actor (Call command reply) ok =
@@ -221,3 +222,8 @@ permitted-next judge header events actor (Save g) ok = other-next (without_ticke
 permitted-next judge header events actor (Saved g size digest) ok = other-next (without_tickets events) actor (Saved g size digest) refl (λ made w other e k. absurd (cc))
 permitted-next judge header events actor (Unsave g) ok = other-next (without_tickets events) actor (Unsave g) refl (λ made w other e k. absurd (cc))
 permitted-next judge header events actor (Collect r) ok = other-next (without_tickets events) actor (Collect r) refl (λ made w other e k. absurd (cc))
+
+-- the last of some events that are permitted
+pub event-next : {T : Type 0} (judge : Judge T) (header : Header) (e : Event T) (events : List (Event T)) → all_permitted judge header (e ∷ events) ≡ true →
+    IsNext (without_tickets events) (without_tickets (e ∷ events))
+event-next judge header e events ok = permitted-next judge header events e.actor e.act (permitted-last judge header e events ok)

@@ -3,7 +3,9 @@
 #![tactic(auto)]
 
 mod needs;
+mod reach;
 mod waits;
 
 pub use needs::{needed_are_kept, unneeded_stay_unneeded};
+pub use reach::{asked_for_are_reachable, ends_of_tasks_are_reachable, roots_are_reachable};
 pub use waits::{waited_for_are_as_urgent, waited_for_are_tasks};
