@@ -46,9 +46,9 @@ read-is-made judge header (e ∷ events) ok f is =
     let past : Past = without_tickets events in
     let before = permitted-before judge header e events ok in
     let next : IsNext past (without_tickets (e ∷ events)) = event-next judge header e events ok in
-    let made : IsOutputOf (records past) f = elim (or_cases (is_read past f) (is_named past f) (next.read f is)) [
-      | inl h ↦ read-is-made judge header events before f h
-      | inr h ↦ named-is-made (records past) (names past) f (past-made judge header events before).named h
+    let made : IsOutputOf (records past) f = elim (or_cases (is_named past f) (is_read past f) (next.read f is)) [
+      | inl h ↦ named-is-made (records past) (names past) f (past-made judge header events before).named h
+      | inr h ↦ read-is-made judge header events before f h
     ] in
     subst (λ (rs : List Record). IsOutputOf rs f) (sym next.added) (output-stays (records past) next.more f made)
 

@@ -34,8 +34,8 @@ pub record IsNext (past ahead : Past) : Type 0 where
   pub saved : (f : FileId) → is_saved past f ≡ true → is_saved ahead f ≡ true
   pub done : (made : RecordId) → was_done past made ≡ true → was_done ahead made ≡ true
   pub named : (f : FileId) → f.rec.0 < length (records past) → is_named ahead f ≡ true → is_named past f ≡ true
-  pub read : (f : FileId) → is_read ahead f ≡ true → (is_read past f || is_named past f) ≡ true
-  pub running : (made : RecordId) → is_running ahead made ≡ true → (is_running past made || is_task past made) ≡ true
+  pub read : (f : FileId) → is_read ahead f ≡ true → (is_named past f || is_read past f) ≡ true
+  pub running : (made : RecordId) → is_running ahead made ≡ true → (is_task past made || is_running past made) ≡ true
   -- the records that are new, whose inputs were named
   pub more : List Record
   pub added : records ahead ≡ records past ++ more
@@ -43,16 +43,16 @@ pub record IsNext (past ahead : Past) : Type 0 where
 
 -- ---- over all actors
 
-any-or : {A : Type 0} (p q : A → Bool) (c : Bool) (xs : List A) → ((x : A) → p x ≡ true → (q x || c) ≡ true) → list_any p xs ≡ true → (list_any q xs || c) ≡ true
-any-or p q c [] each is = absurd (cc)
-any-or p q c (x ∷ xs) each is = elim (or_cases (p x) (list_any p xs) is) [
-  | inl here ↦ elim (or_cases (q x) c (each x here)) [
-    | inl h ↦ or_left (list_any q (x ∷ xs)) c (or_left (q x) (list_any q xs) h)
-    | inr h ↦ or_right (list_any q (x ∷ xs)) c h
+or-any : {A : Type 0} (p q : A → Bool) (c : Bool) (xs : List A) → ((x : A) → p x ≡ true → (c || q x) ≡ true) → list_any p xs ≡ true → (c || list_any q xs) ≡ true
+or-any p q c [] each is = absurd (cc)
+or-any p q c (x ∷ xs) each is = elim (or_cases (p x) (list_any p xs) is) [
+  | inl here ↦ elim (or_cases c (q x) (each x here)) [
+    | inl h ↦ or_left c (list_any q (x ∷ xs)) h
+    | inr h ↦ or_right c (list_any q (x ∷ xs)) (or_left (q x) (list_any q xs) h)
   ]
-  | inr later ↦ elim (or_cases (list_any q xs) c (any-or p q c xs each later)) [
-    | inl h ↦ or_left (list_any q (x ∷ xs)) c (or_right (q x) (list_any q xs) h)
-    | inr h ↦ or_right (list_any q (x ∷ xs)) c h
+  | inr later ↦ elim (or_cases c (list_any q xs) (or-any p q c xs each later)) [
+    | inl h ↦ or_left c (list_any q (x ∷ xs)) h
+    | inr h ↦ or_right c (list_any q (x ∷ xs)) (or_right (q x) (list_any q xs) h)
   ]
 ]
 
@@ -70,23 +70,23 @@ read-kept act f o e h = h
 
 read-called : (reply : Reply) (command : Command (Unit {0})) (past : Past) (f : FileId) (o : Option OpenRead) →
     reply_same (reply_to (names past) (length (records past)) command) reply ≡ true → reads_file f (read_after_call reply command o) ≡ true →
-    (reads_file f o || is_named past f) ≡ true
+    (is_named past f || reads_file f o) ≡ true
 read-called (Opened g) (Read path prio form) past f o same h =
     let it : f ≡ g = (file_same-Decides f g).0 h in
-    or_right (reads_file f o) (is_named past f) (rw it (opened-is-named (Unit {0}) (names past) (length (records past)) path prio form g same))
-read-called (Opened g) command past f o same h = or_left (reads_file f o) (is_named past f) h
-read-called reply command past f o same h = or_left (reads_file f o) (is_named past f) h
+    or_left (is_named past f) (reads_file f o) (rw it (opened-is-named (Unit {0}) (names past) (length (records past)) path prio form g same))
+read-called (Opened g) command past f o same h = or_right (is_named past f) (reads_file f o) h
+read-called reply command past f o same h = or_right (is_named past f) (reads_file f o) h
 
-by-actor : {A : Type 0} (test : A → Bool) (c b : Bool) (new old : A) → (test new ≡ true → (test old || c) ≡ true) → test (if b then new else old) ≡ true → (test old || c) ≡ true
+by-actor : {A : Type 0} (test : A → Bool) (c b : Bool) (new old : A) → (test new ≡ true → (c || test old) ≡ true) → test (if b then new else old) ≡ true → (c || test old) ≡ true
 by-actor test c true new old go h = go h
-by-actor test c false new old go h = or_left (test old) c h
+by-actor test c false new old go h = or_right c (test old) h
 
 -- who reads after an event read before it, or reads what was named
 reads-next : (past : Past) (actor : Actor) (act : Act (Unit {0})) (f : FileId) →
-    ((o : Option OpenRead) → reads_file f (read_after act o) ≡ true → (reads_file f o || is_named past f) ≡ true) →
-    is_read (record { actor = actor; act = act } ∷ past) f ≡ true → (is_read past f || is_named past f) ≡ true
+    ((o : Option OpenRead) → reads_file f (read_after act o) ≡ true → (is_named past f || reads_file f o) ≡ true) →
+    is_read (record { actor = actor; act = act } ∷ past) f ≡ true → (is_named past f || is_read past f) ≡ true
 reads-next past actor act f go h =
-    any-or (λ a. reads_file f (open_read (record { actor = actor; act = act } ∷ past) a)) (λ a. reads_file f (open_read past a)) (is_named past f) actors
+    or-any (λ a. reads_file f (open_read (record { actor = actor; act = act } ∷ past) a)) (λ a. reads_file f (open_read past a)) (is_named past f) actors
     (λ a k. by-actor (reads_file f) (is_named past f) (actor_same a actor) (read_after act (open_read past a)) (open_read past a) (go (open_read past a)) k) h
 
 -- ---- claims
@@ -104,21 +104,21 @@ claim_next b act o = claim_after_loss act (if b then claim_after act o else o)
 
 claim-kept : (b : Bool) (act : Act (Unit {0})) (made : RecordId) (o : Option OpenClaim) (c : Bool) →
     ((worker : WorkerId) (other : RecordId) → act ≡ Claim worker other → record_same made other ≡ true → c ≡ true) →
-    claims_record made (claim_next b act o) ≡ true → (claims_record made o || c) ≡ true
-claim-kept true (Claim worker other) made o c new h = or_right (claims_record made o) c (new worker other refl h)
+    claims_record made (claim_next b act o) ≡ true → (c || claims_record made o) ≡ true
+claim-kept true (Claim worker other) made o c new h = or_left c (claims_record made o) (new worker other refl h)
 claim-kept true (Done worker other) made o c new h = absurd (cc)
 claim-kept true (Back other) made o c new h = absurd (cc)
-claim-kept true (Lose worker) made o c new h = or_left (claims_record made o) c (claim-lost made (is_on worker o) o h)
-claim-kept false (Lose worker) made o c new h = or_left (claims_record made o) c (claim-lost made (is_on worker o) o h)
-claim-kept true act made o c new h = or_left (claims_record made o) c h
-claim-kept false act made o c new h = or_left (claims_record made o) c h
+claim-kept true (Lose worker) made o c new h = or_right c (claims_record made o) (claim-lost made (is_on worker o) o h)
+claim-kept false (Lose worker) made o c new h = or_right c (claims_record made o) (claim-lost made (is_on worker o) o h)
+claim-kept true act made o c new h = or_right c (claims_record made o) h
+claim-kept false act made o c new h = or_right c (claims_record made o) h
 
 -- who runs after an event ran before it, or is what the event claims
 running-next : (past : Past) (actor : Actor) (act : Act (Unit {0})) (made : RecordId) →
     ((worker : WorkerId) (other : RecordId) → act ≡ Claim worker other → record_same made other ≡ true → is_task past made ≡ true) →
-    is_running (record { actor = actor; act = act } ∷ past) made ≡ true → (is_running past made || is_task past made) ≡ true
+    is_running (record { actor = actor; act = act } ∷ past) made ≡ true → (is_task past made || is_running past made) ≡ true
 running-next past actor act made new h =
-    any-or (λ a. claims_record made (open_claim (record { actor = actor; act = act } ∷ past) a)) (λ a. claims_record made (open_claim past a)) (is_task past made) actors
+    or-any (λ a. claims_record made (open_claim (record { actor = actor; act = act } ∷ past) a)) (λ a. claims_record made (open_claim past a)) (is_task past made) actors
     (λ a k. claim-kept (actor_same a actor) act made (open_claim past a) (is_task past made) new k) h
 
 -- ---- what is next is a task
@@ -187,7 +187,7 @@ other-next past actor act e new =
       saved = λ f h. saved-stays act f (saved_as past f) h;
       done = λ made h. or_right (does made act) (was_done past made) h;
       named = λ f old is. subst (λ ns. list_any (λ entry. is_file_node f entry.1) ns ≡ true) (ap names_of calls) is;
-      read = λ f h. reads-next past actor act f (λ o k. or_left (reads_file f o) (is_named past f) (read-kept act f o e k)) h;
+      read = λ f h. reads-next past actor act f (λ o k. or_right (is_named past f) (reads_file f o) (read-kept act f o e k)) h;
       running = λ made h. running-next past actor act made (new made) h;
       more = [];
       added = ap records_of calls ∙ sym (append-nil (records past));

@@ -8,9 +8,8 @@ use Rattle.tl_types.specs.declared.record_id.RecordId.{RecordId}
 use Rattle.tl_model.specs.declared.record.Record.{Record}
 use Rattle.tl_model.specs.Past.{Past}
 use Rattle.tl_model.specs.History.{names, records, record_at, id_of, inputs_of, output_count, outputs_of, has_input, has_output, is_output, is_named}
-use Rattle.tl_model.specs.Actors.{is_read, is_running}
+use Rattle.tl_model.specs.Actors.{is_read}
 use Rattle.tl_model.specs.Residency.{is_saved}
-use Rattle.tl_model.specs.Plan.{is_task}
 use Rattle.tl_model.specs.Needs.{is_needed, is_made_by, can_make, makers, is_reachable, is_live, is_end_of, is_root}
 use Rattle.tl_laws.specs.Numbers.{get-within}
 use Rattle.tl_laws.specs.Order.{among-holds}
@@ -35,26 +34,19 @@ reached-at past whole f out false unsaved needs =
     or_right (is_saved past f) (is_made_by past (makers past) f)
     (chosen-has (can_make past) (λ r. is_output past f (id_of r)) (reverse (records past)) end.0 it.0 (get-reverse (records past) f.rec.0 end.0 it.0 maker.at end.1) can maker.output)
 
-used-is-reached : (past : Past) → IsWhole past → (f : FileId) → IsOutputOf (records past) f → (is_read past f || is_named past f) ≡ true → is_reachable past f ≡ true
+used-is-reached : (past : Past) → IsWhole past → (f : FileId) → IsOutputOf (records past) f → (is_named past f || is_read past f) ≡ true → is_reachable past f ≡ true
 used-is-reached past whole f out used =
     reached-at past whole f out (is_saved past f) refl
     (λ p maker unsaved.
     named-is-needed past f.rec.0 p f.out whole.sound.numbers maker.at maker.small (ap (is_saved past) maker.file ∙ unsaved)
-    (ap (λ (g : FileId). is_read past g || is_named past g) maker.file ∙ used))
+    (ap (λ (g : FileId). is_named past g || is_read past g) maker.file ∙ used))
 
 pub named-is-reached : (past : Past) → IsWhole past → (f : FileId) → is_named past f ≡ true → is_reachable past f ≡ true
 named-is-reached past whole f h =
-    used-is-reached past whole f (named-is-made (records past) (names past) f whole.sound.made.named h) (or_right (is_read past f) (is_named past f) h)
+    used-is-reached past whole f (named-is-made (records past) (names past) f whole.sound.made.named h) (or_left (is_named past f) (is_read past f) h)
 
 pub read-is-reached : (past : Past) → IsWhole past → (f : FileId) → is_read past f ≡ true → is_reachable past f ≡ true
-read-is-reached past whole f h = used-is-reached past whole f (whole.read f h) (or_left (is_read past f) (is_named past f) h)
-
-live-needed : (past : Past) → IsWhole past → (i : ℕ) (r : Record) → slice_get (records past) i ≡ Some r → is_live past r ≡ true → is_needed past (id_of r) ≡ true
-live-needed past whole i r at live =
-    live-is-needed past i r whole.sound.numbers at (elim (or_cases (is_task past (id_of r)) (is_running past (id_of r)) live) [
-      | inl h ↦ or_right (is_running past (id_of r)) (is_task past (id_of r)) h
-      | inr h ↦ or_left (is_running past (id_of r)) (is_task past (id_of r)) h
-    ])
+read-is-reached past whole f h = used-is-reached past whole f (whole.read f h) (or_right (is_named past f) (is_read past f) h)
 
 pub input-is-reached : (past : Past) → IsWhole past → (i : ℕ) (r : Record) → slice_get (records past) i ≡ Some r → is_live past r ≡ true →
     (f : FileId) → has_input f r ≡ true → is_reachable past f ≡ true
@@ -63,7 +55,7 @@ input-is-reached past whole i r at live f reads =
     let number : (id_of r).0 ≡ i = ap (λ (id : RecordId). id.0) (whole.sound.numbers i r at) in
     let less : f.rec.0 < i = (let below : f.rec.0 < (id_of r).0 = known.0 in omega arith) in
     reached-at past whole f known.1.0 (is_saved past f) refl
-    (λ p maker unsaved. maker-of-input past whole i r f p at (live-needed past whole i r at live) less reads unsaved maker)
+    (λ p maker unsaved. maker-of-input past whole i r f p at (live-is-needed past i r whole.sound.numbers at live) less reads unsaved maker)
 
 output-is-reached : (past : Past) → IsWhole past → (i : ℕ) (r : Record) → slice_get (records past) i ≡ Some r → is_live past r ≡ true →
     (f : FileId) → f.rec ≡ id_of r → IsOutputOf (records past) f → is_reachable past f ≡ true
@@ -71,7 +63,7 @@ output-is-reached past whole i r at live f made out =
     reached-at past whole f out (is_saved past f) refl
     (λ p maker unsaved.
     let same : id_of p ≡ id_of r = ap (λ (g : FileId). g.rec) maker.file ∙ made in
-    ap (is_needed past) same ∙ live-needed past whole i r at live)
+    ap (is_needed past) same ∙ live-is-needed past i r whole.sound.numbers at live)
 
 any-place : {A : Type 0} (p : A → Bool) (xs : List A) → list_any p xs ≡ true → (i : ℕ) × (x : A) × (slice_get xs i ≡ Some x) × (p x ≡ true)
 any-place p [] is = absurd (cc)
@@ -93,7 +85,7 @@ end-is-reached past whole f out ends =
 pub root-is-reached : (past : Past) → IsWhole past → (f : FileId) → IsOutputOf (records past) f → is_root past f ≡ true → is_reachable past f ≡ true
 root-is-reached past whole f out root =
     elim (or_cases (is_named past f || is_read past f) (list_any (λ r. is_end_of f r && is_live past r) (records past)) root) [
-      | inl used ↦ elim (or_cases (is_named past f) (is_read past f) used) [ inl h ↦ named-is-reached past whole f h | inr h ↦ read-is-reached past whole f h ]
+      | inl used ↦ used-is-reached past whole f out used
       | inr ends ↦ end-is-reached past whole f out ends
     ]
 

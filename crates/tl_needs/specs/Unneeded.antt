@@ -11,7 +11,7 @@ use Rattle.tl_model.specs.History.{records, id_of, is_job, inputs_of, output_cou
 use Rattle.tl_model.specs.Actors.{is_read, is_running}
 use Rattle.tl_model.specs.Residency.{is_saved, is_resident, is_available, was_done}
 use Rattle.tl_model.specs.Plan.{is_awaited, is_wanted_by, lacks, task_among, is_task}
-use Rattle.tl_model.specs.Needs.{is_needed_file, needed_among, is_needed}
+use Rattle.tl_model.specs.Needs.{is_needed_file, needed_among, is_needed, is_live}
 use Rattle.tl_laws.specs.Numbers.{Numbered, below_or_not, get-left, get-within}
 use Rattle.tl_laws.specs.Order.{among-holds, all-get}
 use Rattle.tl_laws.specs.Ready.{after, get-after, after-after, difference, answer-at-place, task-at, chosen-has, any-output}
@@ -25,15 +25,9 @@ needed-at past i r n at = answer-at-place false (needed_among past) (records pas
 -- ---- who is needed
 
 -- a task, and who is running
-pub live-is-needed : (past : Past) (i : ℕ) (r : Record) → Numbered (records past) → slice_get (records past) i ≡ Some r →
-    (is_running past (id_of r) || is_task past (id_of r)) ≡ true → is_needed past (id_of r) ≡ true
+pub live-is-needed : (past : Past) (i : ℕ) (r : Record) → Numbered (records past) → slice_get (records past) i ≡ Some r → is_live past r ≡ true → is_needed past (id_of r) ≡ true
 live-is-needed past i r n at live =
-    let table = downward (needed_among past) (after (records past) i) in
-    let either : (is_task past (id_of r) || is_running past (id_of r)) ≡ true = elim (or_cases (is_running past (id_of r)) (is_task past (id_of r)) live) [
-      | inl h ↦ or_right (is_task past (id_of r)) (is_running past (id_of r)) h
-      | inr h ↦ or_left (is_task past (id_of r)) (is_running past (id_of r)) h
-    ] in
-    needed-at past i r n at ∙ or_left (is_task past (id_of r) || is_running past (id_of r)) (list_any (is_needed_file past table) (outputs_of r)) either
+    needed-at past i r n at ∙ or_left (is_live past r) (list_any (is_needed_file past (downward (needed_among past) (after (records past) i))) (outputs_of r)) live
 
 -- who has an output that is needed
 file-is-needed : (past : Past) (i : ℕ) (r : Record) (o : ℕ) → Numbered (records past) → slice_get (records past) i ≡ Some r → o < output_count r →
@@ -44,19 +38,15 @@ file-is-needed past i r o n at small h =
     ∙ or_right (is_task past (id_of r) || is_running past (id_of r)) (list_any (is_needed_file past table) (outputs_of r))
     (any-output (is_needed_file past table) (id_of r) 0 (output_count r) o h (omega arith) (omega arith))
 
--- who has an unsaved output that is read or named
+-- who has an unsaved output that is named or read
 pub named-is-needed : (past : Past) (i : ℕ) (r : Record) (o : ℕ) → Numbered (records past) → slice_get (records past) i ≡ Some r → o < output_count r →
-    is_saved past (record { rec = id_of r; out = o }) ≡ false → (is_read past (record { rec = id_of r; out = o }) || is_named past (record { rec = id_of r; out = o })) ≡ true →
+    is_saved past (record { rec = id_of r; out = o }) ≡ false → (is_named past (record { rec = id_of r; out = o }) || is_read past (record { rec = id_of r; out = o })) ≡ true →
     is_needed past (id_of r) ≡ true
 named-is-needed past i r o n at small unsaved used =
     let f : FileId = record { rec = id_of r; out = o } in
     let table = downward (needed_among past) (after (records past) i) in
-    let either : (is_named past f || is_read past f) ≡ true = elim (or_cases (is_read past f) (is_named past f) used) [
-      | inl h ↦ or_right (is_named past f) (is_read past f) h
-      | inr h ↦ or_left (is_named past f) (is_read past f) h
-    ] in
     file-is-needed past i r o n at small
-    (and_from (not (is_saved past f)) _ (ap not unsaved) (or_left (is_named past f || is_read past f) (list_any (has_input f) (chosen table)) either))
+    (and_from (not (is_saved past f)) _ (ap not unsaved) (or_left (is_named past f || is_read past f) (list_any (has_input f) (chosen table)) used))
 
 -- who has an unsaved output that a needed record has as input
 pub input-is-needed : (past : Past) (i k : ℕ) (r s : Record) (o : ℕ) → Numbered (records past) → slice_get (records past) i ≡ Some r → slice_get (records past) k ≡ Some s →
@@ -113,7 +103,7 @@ reader-ahead past ahead i r old k s o less at_s needed small reads unsaved =
           let new = get-right (records past) old.next.more k s h there in
           let inputs = all-get (λ x. AllByRecursion (λ g. is_named past g ≡ true) (inputs_of x)) old.next.more new.0 s old.next.inputs new.1 in
           let named : is_named past f ≡ true = among-holds (λ g. is_named past g ≡ true) f (inputs_of s) inputs reads in
-          named-is-needed past i r o old.numbers old.at small unsaved (or_right (is_read past f) (is_named past f) named)
+          named-is-needed past i r o old.numbers old.at small unsaved (or_left (is_named past f) (is_read past f) named)
     ]
 
 -- one that a table ahead chooses
@@ -133,7 +123,7 @@ chosen-ahead past ahead i r old answer test o c needs reads small unsaved =
 task-ahead-is-needed : (ahead : Past) (k : ℕ) (s : Record) → Numbered (records ahead) → slice_get (records ahead) k ≡ Some s →
     task_among ahead (downward (task_among ahead) (after (records ahead) k)) s ≡ true → is_needed ahead (id_of s) ≡ true
 task-ahead-is-needed ahead k s n at chose =
-    live-is-needed ahead k s n at (or_right (is_running ahead (id_of s)) (is_task ahead (id_of s)) (task-at ahead k s n at ∙ chose))
+    live-is-needed ahead k s n at (or_left (is_task ahead (id_of s)) (is_running ahead (id_of s)) (task-at ahead k s n at ∙ chose))
 
 -- an output that lacks ahead
 lacking-ahead : (past ahead : Past) (i : ℕ) (r : Record) → IsOld past ahead i r → (o : ℕ) → o < output_count r →
@@ -166,7 +156,7 @@ task-ahead past ahead i r old task =
           false_from_ne_true (was_done past (id_of r)) (λ k. both_ways (was_done ahead (id_of r)) (not-true (was_done ahead (id_of r)) h) (old.next.done (id_of r) k)) in
           let was : is_task past (id_of r) ≡ true =
           task-at past i r old.numbers old.at ∙ and_from (is_job r) _ parts.0 (or_left (not (was_done past (id_of r))) _ (ap not undone)) in
-          live-is-needed past i r old.numbers old.at (or_right (is_running past (id_of r)) (is_task past (id_of r)) was)
+          live-is-needed past i r old.numbers old.at (or_left (is_task past (id_of r)) (is_running past (id_of r)) was)
       | inr h ↦
           let it = which-output (lacks ahead table) (id_of r) 0 (output_count r) h in
           let below : it.0 < 0 + output_count r = it.2 in
@@ -186,7 +176,7 @@ file-ahead past ahead i r old o small h =
     let less : (id_of r).0 < length (records past) = omega arith in
     elim (or_cases (is_named ahead f || is_read ahead f) (list_any (has_input f) (chosen table)) parts.1) [
       | inl used ↦ elim (or_cases (is_named ahead f) (is_read ahead f) used) [
-        | inl named ↦ named-is-needed past i r o old.numbers old.at small unsaved (or_right (is_read past f) (is_named past f) (old.next.named f less named))
+        | inl named ↦ named-is-needed past i r o old.numbers old.at small unsaved (or_left (is_named past f) (is_read past f) (old.next.named f less named))
         | inr read ↦ named-is-needed past i r o old.numbers old.at small unsaved (old.next.read f read)
       ]
       | inr input ↦
