@@ -3,5 +3,7 @@
 
 mod line;
 mod print;
+#[cfg(test)]
+mod tests;
 
 pub use line::transcript_line;
