@@ -1,6 +1,10 @@
 ghost use Rattle.std.specs.Prelude.{◌≡◌, ◌+◌, ◌<◌, ◌≤◌, ◌^◌, ◌-◌, ◌==◌, false, Some, length, slice_get, IfSome, IfOk, IfErr, OnOk, OnErr};
 ghost use Rattle.std.specs.Option.{option_map};
 ghost use Rattle.tl_fleet.specs.Workers.{IsOnce, new_workers, is_resident, found, found_block, installed, all_touched, all_without, lost, first_to_drop, dropped, incarnation_of, changed_at, with_blocks, put_front, emptied, to_drop};
+ghost use Rattle.tl_fleet.specs.Order.{IsNumbered, ExceptsBy, StandsInOrder, due};
+ghost use Rattle.tl_model.specs.Eviction.{Sizes};
+ghost use Rattle.tl_model.specs.Past.{Past};
+ghost use Rattle.tl_model.specs.declared.header.Header.{Header};
 ghost use Rattle.tl_store.specs.Contents.{without};
 
 use crate::worker::Worker;
@@ -119,6 +123,8 @@ impl Fleet {
     pub fn settle_one<X: Excepted>(&mut self, x: &X) -> Option<(WorkerId, FileId)>
         ensures first { result ≡ first_to_drop (X.excepted x.now) self.old }
         ensures dropped { self.new ≡ dropped result self.old }
+        ensures due { (sizes : Sizes) (header : Header) (past : Past) → IsNumbered past → ExceptsBy past (X.excepted x.now) →
+            StandsInOrder sizes header past self.old → result ≡ due sizes header past }
     {
         let (w, f) = find_drop(&self.workers, x)?;
         remove_at(&mut self.workers, w.0 as usize, f);
