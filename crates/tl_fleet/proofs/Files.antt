@@ -1,19 +1,16 @@
 -- Lists of files: which are in them, and the sum over one in which none stands twice.
-use Rattle.std.proofs.Common.{◌≡◌, ◌∙◌, ℕ, ◌+◌, ◌⊎◌, inl, inr, Bool, true, false, not, ◌&&◌, ◌||◌, cond, List, [], ◌∷◌, map, filter, is_some, Some, refl, sym, ap, subst, arith}
+use Rattle.std.proofs.Common.{◌≡◌, ◌∙◌, ℕ, ◌+◌, ◌⊎◌, inl, inr, Bool, true, false, not, ◌&&◌, ◌||◌, cond, List, [], ◌∷◌, filter, is_some, Some, refl, sym, ap, subst, arith}
 use Rattle.std.specs.Prelude.{⊤, sum_by}
-use Rattle.std.specs.List.{AllByRecursion, list_any}
+use Rattle.std.specs.List.{AllByRecursion}
 use Rattle.std.specs.declared.cmp.Ordering.TheVariants.{Less}
 use Rattle.std.proofs.lemmas.Bool.{or_cases, or_parts}
 use Rattle.std.proofs.lemmas.List.Sums.{sum_by-cons}
-use Rattle.tl_types.specs.Block.{FileOutcome}
 use Rattle.tl_types.specs.Same.{file_cmp, file_same, file_same-Decides}
 use Rattle.tl_types.specs.declared.file_id.FileId.{FileId}
 use Rattle.tl_store.specs.Contents.{Blocks, block_of, has}
+use Rattle.tl_fleet.specs.Events.{among, files_of}
 use Rattle.tl_fleet.specs.Order.{Ascends}
 use Rattle.tl_fleet.proofs.Sooner.{lesser_asym}
-
-abbrev pub among : FileId → List FileId → Bool
-among f fs = list_any (file_same f) fs
 
 pub same_self : (f : FileId) → file_same f f ≡ true
 same_self f = (file_same-Decides f f).1 refl
@@ -137,7 +134,7 @@ left_test false false false false e off is = refl
 left_test false true false false e off is = absurd (cc)
 left_test false false true false e off is = absurd (cc)
 
-same_turned : (f g : FileId) → file_same f g ≡ file_same g f
+pub same_turned : (f g : FileId) → file_same f g ≡ file_same g f
 same_turned f g = elim (either (file_same f g)) [
   | inl t ↦ let at : f ≡ g = same_is f g t in ap (λ x. file_same x g) at ∙ ap (λ x. file_same g x) (sym at)
   | inr t ↦ (elim (either (file_same g f)) [
@@ -160,12 +157,6 @@ same_sum size (f ∷ fs) gs d e same =
     ∙ sym (sum_out size f gs e there)
 
 -- ---- the files of blocks
-
-abbrev pub file_of : FileOutcome → FileId
-file_of block = block.file
-
-abbrev pub files_of : Blocks → List FileId
-files_of blocks = map file_of blocks
 
 pub has_among : (f : FileId) (blocks : Blocks) → has f blocks ≡ among f (files_of blocks)
 has_among f [] = refl

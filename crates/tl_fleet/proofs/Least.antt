@@ -11,7 +11,8 @@ use Rattle.tl_model.specs.Tables.{better, first_by}
 use Rattle.tl_store.specs.Contents.{Blocks, first_kept, victim}
 use Rattle.tl_fleet.specs.Order.{IsSooner, Ascends}
 use Rattle.tl_fleet.proofs.Sooner.{sooner_asym, sooner_le}
-use Rattle.tl_fleet.proofs.Files.{among, same_self, same_is, either, all_among, files_of}
+use Rattle.tl_fleet.specs.Events.{among, files_of}
+use Rattle.tl_fleet.proofs.Files.{same_self, same_is, either, all_among}
 
 -- of the files that pass a test, the one that is evicted sooner than all others; none where none passes
 abbrev pub IsLeast : (FileId → ℕ) → (FileId → Bool) → Option FileId → Type 0

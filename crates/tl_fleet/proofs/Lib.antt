@@ -1,7 +1,9 @@
 pub mod Changes
+pub mod Events
 pub mod Files
 pub mod Least
 pub mod Once
 pub mod Pasts
 pub mod Settles
 pub mod Sooner
+pub mod Steps

@@ -12,7 +12,7 @@ use Rattle.tl_model.specs.Past.{Past}
 use Rattle.tl_model.specs.History.{records, id_of, output_count, outputs_of, files_from, files, has_output}
 use Rattle.tl_fleet.specs.Order.{Ascends, IsNumbered, is_made}
 use Rattle.tl_fleet.proofs.Sooner.{lesser_record, lesser_output}
-use Rattle.tl_fleet.proofs.Files.{among}
+use Rattle.tl_fleet.specs.Events.{among}
 
 pub all_joined : (P : FileId → Type 0) (fs gs : List FileId) → AllByRecursion P fs → AllByRecursion P gs → AllByRecursion P (fs ++ gs)
 all_joined P [] gs a b = b

@@ -17,7 +17,8 @@ use Rattle.tl_store.specs.Contents.{Blocks, block_size, used_by, victim}
 use Rattle.tl_fleet.specs.Workers.{Workers, first_to_drop_from, first_to_drop}
 use Rattle.tl_fleet.specs.Order.{Ascends, IsSooner, InOrder, IsOfFile, StandsAt, EachStands, StandsInOrder, IsNumbered, ExceptsBy, sight_of, is_made, due, due_on}
 use Rattle.tl_fleet.proofs.Sooner.{sooner_asym}
-use Rattle.tl_fleet.proofs.Files.{among, files_of, has_among, all_among, ascends_filtered, ascends_distinct, distinct_all, Distinct, among_filtered, same_sum}
+use Rattle.tl_fleet.specs.Events.{among, files_of}
+use Rattle.tl_fleet.proofs.Files.{has_among, all_among, ascends_filtered, ascends_distinct, distinct_all, Distinct, among_filtered, same_sum}
 use Rattle.tl_fleet.proofs.Least.{FilesInOrder, goes, least_one, least_of_same, least_last, least_first, victim_last}
 use Rattle.tl_fleet.proofs.Pasts.{files_ascend, made_among}
 

@@ -1,2 +1,3 @@
 pub mod Workers
 pub mod Order
+pub mod Events

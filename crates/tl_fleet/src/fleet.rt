@@ -1,7 +1,10 @@
-ghost use Rattle.std.specs.Prelude.{◌≡◌, ◌+◌, ◌<◌, ◌≤◌, ◌^◌, ◌-◌, ◌==◌, false, Some, length, slice_get, IfSome, IfOk, IfErr, OnOk, OnErr};
+ghost use Rattle.std.specs.Prelude.{◌≡◌, ◌+◌, ◌<◌, ◌≤◌, ◌^◌, ◌-◌, ◌==◌, false, [], Some, length, slice_get, IfSome, IfOk, IfErr, OnOk, OnErr};
 ghost use Rattle.std.specs.Option.{option_map};
 ghost use Rattle.tl_fleet.specs.Workers.{IsOnce, new_workers, is_resident, found, found_block, installed, all_touched, all_without, lost, first_to_drop, dropped, incarnation_of, changed_at, with_blocks, put_front, emptied, to_drop};
-ghost use Rattle.tl_fleet.specs.Order.{IsNumbered, ExceptsBy, StandsInOrder, due};
+ghost use Rattle.tl_fleet.specs.Order.{IsNumbered, IsOfFile, ExceptsBy, StandsInOrder, due, sight_of};
+ghost use Rattle.tl_fleet.specs.Events.{after_load, after_served, after_free, after_drop, after_loss};
+ghost use Rattle.tl_types.specs.declared.actor.Actor.{Actor as By};
+ghost use Rattle.tl_types.specs.declared.digest.Digest.{Digest as Sum};
 ghost use Rattle.tl_model.specs.Eviction.{Sizes};
 ghost use Rattle.tl_model.specs.Past.{Past};
 ghost use Rattle.tl_model.specs.declared.header.Header.{Header};
@@ -33,7 +36,9 @@ impl Model for Fleet {
 impl Fleet {
     /// Empty workers of incarnation 0, each of which may have `capacity` bytes.
     pub fn new(alloc: Global, workers: u8, capacity: u64) -> Result<Fleet, NoMemory>
-        ensures { IfOk result (λ fleet. fleet ≡ new_workers workers capacity) }
+        ensures new { IfOk result (λ fleet. fleet ≡ new_workers workers capacity) }
+        ensures stands { IfOk result (λ fleet. (sizes : Sizes) (header : Header) → header.workers ≡ workers → header.capacity ≡ capacity →
+            StandsInOrder sizes header [] fleet) }
     {
         let mut fleet = Vec::new(alloc);
         for _ in 0..workers {
@@ -68,6 +73,8 @@ impl Fleet {
         ensures ok { OnOk result (self.new ≡ installed w block self.old) }
         ensures err { OnErr result (self.new ≡ self.old) }
         ensures back { IfErr result (λ back. back ≡ block) }
+        ensures stands { (sizes : Sizes) (header : Header) (past : Past) (actor : By) → StandsInOrder sizes header past self.old →
+            IsOfFile sizes (sight_of past) block → OnOk result (StandsInOrder sizes header (after_load actor w block.file past) self.new) }
     {
         install_at(&mut self.workers, w.0 as usize, block)
     }
@@ -89,14 +96,18 @@ impl Fleet {
 
     /// Makes a file the most recently used of its worker. A file on no worker changes nothing.
     pub fn touch(&mut self, f: FileId)
-        ensures { self.new ≡ all_touched f self.old }
+        ensures touched { self.new ≡ all_touched f self.old }
+        ensures stands { (sizes : Sizes) (header : Header) (past : Past) (actor : By) (digest : Sum) → StandsInOrder sizes header past self.old →
+            StandsInOrder sizes header (after_served actor f digest past) self.new }
     {
         touch_all(&mut self.workers, f);
     }
 
     /// Takes a file out of its worker. A file on no worker changes nothing.
     pub fn free(&mut self, f: FileId)
-        ensures { self.new ≡ all_without f self.old }
+        ensures free { self.new ≡ all_without f self.old }
+        ensures stands { (sizes : Sizes) (header : Header) (past : Past) (actor : By) → StandsInOrder sizes header past self.old →
+            StandsInOrder sizes header (after_free actor f past) self.new }
     {
         free_all(&mut self.workers, f);
     }
@@ -105,7 +116,9 @@ impl Fleet {
     pub fn lose(&mut self, w: WorkerId)
         requires worker { w.0 < length self.old }
         requires incarnation { IfSome (slice_get self.old w.0) (λ worker. worker.incarnation < 2 ^ 64 - 1) }
-        ensures { self.new ≡ lost w self.old }
+        ensures lost { self.new ≡ lost w self.old }
+        ensures stands { (sizes : Sizes) (header : Header) (past : Past) (actor : By) → StandsInOrder sizes header past self.old →
+            StandsInOrder sizes header (after_loss actor w past) self.new }
     {
         lose_at(&mut self.workers, w.0 as usize);
     }
@@ -125,6 +138,8 @@ impl Fleet {
         ensures dropped { self.new ≡ dropped result self.old }
         ensures due { (sizes : Sizes) (header : Header) (past : Past) → IsNumbered past → ExceptsBy past (X.excepted x.now) →
             StandsInOrder sizes header past self.old → result ≡ due sizes header past }
+        ensures stands { (sizes : Sizes) (header : Header) (past : Past) (actor : By) → StandsInOrder sizes header past self.old →
+            IfSome result (λ drop. StandsInOrder sizes header (after_drop actor drop past) self.new) }
     {
         let (w, f) = find_drop(&self.workers, x)?;
         remove_at(&mut self.workers, w.0 as usize, f);
