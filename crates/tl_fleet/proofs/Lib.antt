@@ -5,5 +5,6 @@ pub mod Least
 pub mod Once
 pub mod Pasts
 pub mod Settles
+pub mod Several
 pub mod Sooner
 pub mod Steps

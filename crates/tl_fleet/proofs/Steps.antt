@@ -58,7 +58,7 @@ has_later : (f : FileId) (b : FileOutcome) (bs : Blocks) → has f bs ≡ true �
 has_later f b bs h = elim (file_same f b.file) as (λ t. is_some (cond t (Some b) (block_of f bs)) ≡ true) [ true ↦ refl | false ↦ h ]
 
 -- what is so of each block is so of it in other words
-each_there : (P Q : FileOutcome → Type 0) (bs : Blocks) → ((b : FileOutcome) → has b.file bs ≡ true → P b → Q b) → AllByRecursion P bs → AllByRecursion Q bs
+pub each_there : (P Q : FileOutcome → Type 0) (bs : Blocks) → ((b : FileOutcome) → has b.file bs ≡ true → P b → Q b) → AllByRecursion P bs → AllByRecursion Q bs
 each_there P Q [] so h = tt
 each_there P Q (b ∷ bs) so h = (so b (has_front b bs) h.0, each_there P Q bs (λ c t. so c (has_later c.file b bs t)) h.1)
 
@@ -117,7 +117,7 @@ apart f g bs off on = elim (either (file_same f g)) [
   | inr t ↦ t
 ]
 
-some_at : (w : WorkerId) (o : Option WorkerId) → is_at w o ≡ true → is_some o ≡ true
+pub some_at : (w : WorkerId) (o : Option WorkerId) → is_at w o ≡ true → is_some o ≡ true
 some_at w None h = absurd (cc)
 some_at w (Some v) h = refl
 

@@ -3,9 +3,11 @@
 #![tactic(auto)]
 
 mod fleet;
+mod laws;
 #[cfg(test)]
 mod tests;
 mod worker;
 
 pub use fleet::Fleet;
+pub use laws::{claim_keeps_order, done_keeps_order, other_events_keep_order};
 pub use tl_store::Excepted;
