@@ -1,21 +1,22 @@
 -- The workers stand in order for a past, and for that past with one more event.
-use Rattle.std.proofs.Common.{◌≡◌, ◌∙◌, ℕ, zero, suc, ◌+◌, ◌<◌, ◌≤◌, inl, true, false, if◌then◌else◌, [], ◌∷◌, length, map, replicate, Some, is_some, refl, sym, ap, arith}
+use Rattle.std.proofs.Common.{◌≡◌, ◌∙◌, ℕ, zero, suc, ◌+◌, ◌<◌, ◌≤◌, inl, true, false, if◌then◌else◌, [], ◌∷◌, length, map, replicate, Some, is_some, refl, sym, ap, arith, Bool, ◌&&◌, subst, None}
 use Rattle.std.specs.Prelude.{⊤}
 use Rattle.std.specs.List.{AllByRecursion, list_any}
 use Rattle.std.proofs.lemmas.Bool.{or_parts}
 use Rattle.std.proofs.lemmas.List.{length-replicate}
 use Rattle.tl_types.specs.Block.{FileOutcome}
+use Rattle.tl_types.specs.Same.{file_same}
 use Rattle.tl_types.specs.declared.actor.Actor.{Actor}
 use Rattle.tl_types.specs.declared.digest.Digest.{Digest}
 use Rattle.tl_types.specs.declared.file_id.FileId.{FileId}
 use Rattle.tl_types.specs.declared.worker_id.WorkerId.{WorkerId}
 use Rattle.tl_model.specs.declared.header.Header.{Header}
 use Rattle.tl_model.specs.Past.{Past}
-use Rattle.tl_model.specs.Residency.{place, recency, uses}
+use Rattle.tl_model.specs.Residency.{place, recency, uses, is_at}
 use Rattle.tl_model.specs.Eviction.{Sizes}
 use Rattle.tl_store.specs.Contents.{has, without, touched}
 use Rattle.tl_fleet.specs.Workers.{Workers, has_file, is_resident, changed_at, with_blocks, put_front, emptied, installed, all_touched, all_without, lost, dropped, new_worker, new_workers}
-use Rattle.tl_fleet.specs.Order.{Sight, sight_of, IsOfFile, StandsAt, EachStands, Stands, StandsInOrder}
+use Rattle.tl_fleet.specs.Order.{Sight, IsWithin, sight_of, IsOfFile, StandsAt, EachStands, Stands, StandsInOrder}
 use Rattle.tl_fleet.specs.Events.{after_load, after_served, after_free, after_drop, after_loss}
 use Rattle.tl_fleet.specs.declared.worker.Worker.{Worker}
 use Rattle.tl_fleet.proofs.Steps.{brought, used_at, gone, gone_from, cleared, IsNewest, brought_here, brought_there, touched_here, gone_here, gone_from_here, gone_from_there, cleared_here, cleared_there}
@@ -61,8 +62,8 @@ module _ (sizes : Sizes) (header : Header) (s t : Sight) (change : Worker → Wo
   each_one n zero (w ∷ ws) e p h = (here n w p.0 (omega arith) h.0, each_later (n + 1) ws (omega arith) p.1 h.1)
   each_one n (suc k) (w ∷ ws) e p h = ((h.0.0, there n w p.0 (apart_before n k e) h.0.1), each_one (n + 1) k ws (omega arith) p.1 h.1)
 
-  pub one_stands : (ws : Workers) → AllByRecursion P ws → Stands sizes header s ws → Stands sizes header t (changed_at m change ws)
-  one_stands ws p h = (length_changed m change ws ∙ h.0, each_one 0 m ws (omega arith) p h.1)
+  pub one_stands : (ws : Workers) → AllByRecursion P ws → Stands sizes header s ws → IsWithin header t → Stands sizes header t (changed_at m change ws)
+  one_stands ws p h within = (length_changed m change ws ∙ h.0, each_one 0 m ws (omega arith) p h.1, within)
 
 on_none : (f : FileId) (ws : Workers) → is_resident f ws ≡ false → AllByRecursion (λ w. has f w.store.blocks ≡ false) ws
 on_none f [] h = tt
@@ -72,25 +73,37 @@ any_worker : (ws : Workers) → AllByRecursion (λ w. ⊤) ws
 any_worker [] = tt
 any_worker (w ∷ ws) = (tt, any_worker ws)
 
+-- a file that goes is on no worker
+still_within : (header : Header) (s : Sight) → IsWithin header s → (f : FileId) (v : WorkerId) (b : Bool) → (if b then None else s.place f) ≡ Some v → v.0 < header.workers
+still_within header s within f v true e = absurd (cc)
+still_within header s within f v false e = within f v e
+
+now_within : (header : Header) (s : Sight) → IsWithin header s → (w : WorkerId) → w.0 < header.workers → (f : FileId) (v : WorkerId) (b : Bool) → (if b then Some w else s.place f) ≡ Some v → v.0 < header.workers
+now_within header s within w known f v true e = let same : w ≡ v = cc in subst (λ (x : WorkerId). x.0 < header.workers) same known
+now_within header s within w known f v false e = within f v e
+
 module _ (sizes : Sizes) (header : Header) (s : Sight) (ws : Workers) (h : Stands sizes header s ws) where
-  pub stands_brought : (w : WorkerId) (block : FileOutcome) (time : ℕ) → is_resident block.file ws ≡ false → IsOfFile sizes s block → IsNewest s time block.file →
+  pub stands_brought : (w : WorkerId) (block : FileOutcome) (time : ℕ) → w.0 < header.workers → is_resident block.file ws ≡ false → IsOfFile sizes s block → IsNewest s time block.file →
       Stands sizes header (brought w block.file time s) (installed w block ws)
-  stands_brought w block time absent of newest =
+  stands_brought w block time known absent of newest =
       one_stands sizes header s (brought w block.file time s) (with_blocks (put_front block)) w.0 (λ x. has block.file x.store.blocks ≡ false)
       (λ n x off at k. (k.0, brought_here sizes s w block time n x.store.blocks k.1 at off of newest))
       (λ n x off at k. brought_there sizes s w block.file time n x.store.blocks k at off)
       ws (on_none block.file ws absent) h
+      (λ f v e. now_within header s h.2 w known f v (file_same f block.file) e)
 
   pub stands_used : (g : FileId) (time : ℕ) → IsNewest s time g → Stands sizes header (used_at g time s) (all_touched g ws)
   stands_used g time newest = (
     length_all (with_blocks (touched g)) ws ∙ h.0,
     each_all sizes sizes header s (used_at g time s) (with_blocks (touched g)) (λ n x k. (k.0, touched_here sizes s g time n x.store.blocks k.1 newest)) 0 ws h.1,
+    h.2,
   )
 
   pub stands_gone : (g : FileId) → Stands sizes header (gone g s) (all_without g ws)
   stands_gone g = (
     length_all (with_blocks (without g)) ws ∙ h.0,
     each_all sizes sizes header s (gone g s) (with_blocks (without g)) (λ n x k. (k.0, gone_here sizes s g n x.store.blocks k.1)) 0 ws h.1,
+    λ f v e. still_within header s h.2 f v (file_same f g) e,
   )
 
   pub stands_gone_from : (w : WorkerId) (g : FileId) → Stands sizes header (gone_from w g s) (changed_at w.0 (with_blocks (without g)) ws)
@@ -99,6 +112,7 @@ module _ (sizes : Sizes) (header : Header) (s : Sight) (ws : Workers) (h : Stand
       (λ n x off at k. (k.0, gone_from_here sizes s w g n x.store.blocks k.1 at))
       (λ n x off at k. gone_from_there sizes s w g n x.store.blocks k at)
       ws (any_worker ws) h
+      (λ f v e. still_within header s h.2 f v (file_same f g && is_at w (s.place f)) e)
 
   pub stands_cleared : (w : WorkerId) → Stands sizes header (cleared w s) (changed_at w.0 emptied ws)
   stands_cleared w =
@@ -106,6 +120,7 @@ module _ (sizes : Sizes) (header : Header) (s : Sight) (ws : Workers) (h : Stand
       (λ n x off at k. (k.0, cleared_here sizes s w n at))
       (λ n x off at k. cleared_there sizes s w n x.store.blocks k at)
       ws (any_worker ws) h
+      (λ f v e. still_within header s h.2 f v (is_at w (s.place f)) e)
 
 -- ---- events
 
@@ -126,9 +141,10 @@ pub now_newest : (past : Past) (g : FileId) → IsNewest (sight_of past) (length
 now_newest past g f off there = inl (used_before past f there)
 
 module _ (sizes : Sizes) (header : Header) (past : Past) (ws : Workers) (h : StandsInOrder sizes header past ws) (actor : Actor) where
-  pub load_stands : (w : WorkerId) (block : FileOutcome) → is_resident block.file ws ≡ false → IsOfFile sizes (sight_of past) block →
+  pub load_stands : (w : WorkerId) (block : FileOutcome) → w.0 < length ws → is_resident block.file ws ≡ false → IsOfFile sizes (sight_of past) block →
       StandsInOrder sizes header (after_load actor w block.file past) (installed w block ws)
-  load_stands w block absent of = stands_brought sizes header (sight_of past) ws h w block (length past) absent of (now_newest past block.file)
+  load_stands w block known absent of =
+      stands_brought sizes header (sight_of past) ws h w block (length past) (subst (λ k. w.0 < k) h.0 known) absent of (now_newest past block.file)
 
   pub served_stands : (g : FileId) (digest : Digest) → StandsInOrder sizes header (after_served actor g digest past) (all_touched g ws)
   served_stands g digest = stands_used sizes header (sight_of past) ws h g (length past) (now_newest past g)
@@ -149,4 +165,4 @@ each_new sizes header capacity e n zero = tt
 each_new sizes header capacity e n (suc k) = ((sym e, record { resident = λ f. refl; order = tt; files = tt }), each_new sizes header capacity e (n + 1) k)
 
 pub new_stands : (sizes : Sizes) (header : Header) (workers capacity : ℕ) → header.workers ≡ workers → header.capacity ≡ capacity → StandsInOrder sizes header [] (new_workers workers capacity)
-new_stands sizes header workers capacity w e = (length-replicate workers (new_worker capacity) ∙ sym w, each_new sizes header capacity e 0 workers)
+new_stands sizes header workers capacity w e = (length-replicate workers (new_worker capacity) ∙ sym w, each_new sizes header capacity e 0 workers, λ f v none. absurd (cc))

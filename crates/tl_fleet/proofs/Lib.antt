@@ -4,6 +4,7 @@ pub mod Files
 pub mod Least
 pub mod Once
 pub mod Pasts
+pub mod Places
 pub mod Settles
 pub mod Several
 pub mod Sooner

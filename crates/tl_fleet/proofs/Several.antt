@@ -43,7 +43,7 @@ each_like old sizes header s t places recencies made n (w ∷ ws) h = (
 
 stands_like : (old sizes : Sizes) (header : Header) (s t : Sight) (ws : Workers) → Stands old header s ws → ((f : FileId) → t.place f ≡ s.place f) →
     ((f : FileId) → is_some (s.place f) ≡ true → t.recency f ≡ s.recency f) → ((f : FileId) → s.is_made f ≡ true → (sizes f ≡ old f) × (t.is_made f ≡ true)) → Stands sizes header t ws
-stands_like old sizes header s t ws h places recencies made = (h.0, each_like old sizes header s t places recencies made 0 ws h.1)
+stands_like old sizes header s t ws h places recencies made = (h.0, each_like old sizes header s t places recencies made 0 ws h.1, λ f v e. h.2 f v (sym (places f) ∙ e))
 
 -- ---- one file after another
 
@@ -81,7 +81,7 @@ module _ (s : Sight) (time : ℕ) (g : FileId) (gs : List FileId) (newest : IsNe
   newest_brought : (w : WorkerId) → IsNewestOf (brought w g time s) time gs
   newest_brought w f there = newest_now f (λ off. sym (ap (λ b. is_some (if b then Some w else s.place f)) off) ∙ there)
 
-at_each : (s : Sight) (f : FileId) (sizes : Sizes) (header : Header) (n : ℕ) (ws : Workers) → s.place f ≡ None → EachStands sizes header s n ws → list_any (has_file f) ws ≡ false
+pub at_each : (s : Sight) (f : FileId) (sizes : Sizes) (header : Header) (n : ℕ) (ws : Workers) → s.place f ≡ None → EachStands sizes header s n ws → list_any (has_file f) ws ≡ false
 at_each s f sizes header n [] e h = refl
 at_each s f sizes header n (w ∷ ws) e h = ap (λ b. b || list_any (has_file f) ws) (h.0.1.resident f ∙ ap (is_at (number n)) e) ∙ at_each s f sizes header (n + 1) ws e h.1
 
@@ -102,12 +102,12 @@ module _ (sizes : Sizes) (header : Header) (time : ℕ) where
   each_used (f ∷ fs) s ws h ascends newest =
       each_used fs (used_at f time s) (worker.all_touched f ws) (stands_used sizes header s ws h f time (newest_first s time f fs newest)) ascends.1 (newest_used s time f fs newest ascends)
 
-  each_brought : (w : WorkerId) (bs : Blocks) (s : Sight) (ws : Workers) → Stands sizes header s ws → Ascends (files_of bs) → IsNewestOf s time (files_of bs) →
+  each_brought : (w : WorkerId) → w.0 < header.workers → (bs : Blocks) (s : Sight) (ws : Workers) → Stands sizes header s ws → Ascends (files_of bs) → IsNewestOf s time (files_of bs) →
       AllByRecursion (λ b. s.place b.file ≡ None) bs → AllByRecursion (IsOfFile sizes s) bs → Stands sizes header (all_brought w (files_of bs) time s) (installed_each w bs ws)
-  each_brought w [] s ws h ascends newest none of = h
-  each_brought w (b ∷ bs) s ws h ascends newest none of =
-      each_brought w bs (brought w b.file time s) (worker.installed w b ws)
-      (stands_brought sizes header s ws h w b time (at_each s b.file sizes header 0 ws none.0 h.1) of.0 (newest_first s time b.file (files_of bs) newest))
+  each_brought w known [] s ws h ascends newest none of = h
+  each_brought w known (b ∷ bs) s ws h ascends newest none of =
+      each_brought w known bs (brought w b.file time s) (worker.installed w b ws)
+      (stands_brought sizes header s ws h w b time known (at_each s b.file sizes header 0 ws none.0 h.1) of.0 (newest_first s time b.file (files_of bs) newest))
       ascends.1 (newest_brought s time b.file (files_of bs) newest ascends w) (still_none w b.file time s bs ascends.0 none.1) of.1
 
 -- ---- what is known at the end
@@ -190,17 +190,17 @@ output_made past f made h =
     let parts = and_parts (record_same f.rec made) (has_output (record_at past made) f.out) h in
     ap (λ r. has_output (record_at past r) f.out) ((record_same-Decides f.rec made).0 parts.0) ∙ parts.1
 
-pub done_stands : (sizes : Sizes) (header : Header) (past : Past) (actor : Actor) (w : WorkerId) (made : RecordId) (bs : Blocks) (ws : Workers) → StandsInOrder sizes header past ws →
+pub done_stands : (sizes : Sizes) (header : Header) (past : Past) (actor : Actor) (w : WorkerId) (made : RecordId) (bs : Blocks) (ws : Workers) → StandsInOrder sizes header past ws → w.0 < header.workers →
     Ascends (files_of bs) → ((f : FileId) → among f (files_of bs) ≡ (is_output past f made && is_none (place past f))) → AllByRecursion (λ b. block_size b ≡ sizes b.file) bs →
     StandsInOrder sizes header (after_done actor w made past) (installed_each w bs ws)
-done_stands sizes header past actor w made bs ws h ascends just long =
+done_stands sizes header past actor w made bs ws h known ascends just long =
     let s = sight_of past in
     let now = length past in
     let fs = files_of bs in
     let parts : (b : FileOutcome) → has b.file bs ≡ true → (is_output past b.file made ≡ true) × (is_none (place past b.file) ≡ true) =
     λ b there. and_parts (is_output past b.file made) (is_none (place past b.file)) (sym (just b.file) ∙ sym (has_among b.file bs) ∙ there) in
     stands_like sizes sizes header (all_brought w fs now s) (sight_of (after_done actor w made past)) (installed_each w bs ws)
-    (each_brought sizes header now w bs s ws h ascends (now_newest_of past fs)
+    (each_brought sizes header now w known bs s ws h ascends (now_newest_of past fs)
     (each_there (λ b. block_size b ≡ sizes b.file) (λ b. s.place b.file ≡ None) bs (λ b there l. none_is (place past b.file) (parts b there).1) long)
     (each_there (λ b. block_size b ≡ sizes b.file) (IsOfFile sizes s) bs (λ b there l. (l, output_made past b.file made (parts b there).0)) long))
     (λ f. place_done past w made f (place past f) (among f fs) (just f) ∙ sym (brought_place w fs now s f))

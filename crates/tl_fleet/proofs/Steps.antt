@@ -135,6 +135,12 @@ newest_front s time g f off there newest =
       | inr l ↦ inr (now ∙ l.0 ∙ sym last, l.1)
     ]
 
+pub off_worker : (n m : ℕ) → (n ≡ m → ⊥) → (n == m) ≡ false
+off_worker n m off = elim (either (n == m)) [
+  | inl t ↦ absurd (off ((Decides-eqb n m).0 t))
+  | inr t ↦ t
+]
+
 module _ (sizes : Sizes) (s : Sight) where
   -- the same blocks, where of their files the same is known
   pub stays : (later : Sizes) (t : Sight) (n : ℕ) (bs : Blocks) → StandsAt sizes s n bs → ((f : FileId) → has f bs ≡ is_at (number n) (t.place f)) →
@@ -169,12 +175,6 @@ module _ (sizes : Sizes) (s : Sight) where
         );
         files = (of, h.files);
       }
-
-  off_worker : (n m : ℕ) → (n ≡ m → ⊥) → (n == m) ≡ false
-  off_worker n m off = elim (either (n == m)) [
-    | inl t ↦ absurd (off ((Decides-eqb n m).0 t))
-    | inr t ↦ t
-  ]
 
   pub brought_there : (w : WorkerId) (g : FileId) (time n : ℕ) (bs : Blocks) → StandsAt sizes s n bs → (n ≡ w.0 → ⊥) → has g bs ≡ false → StandsAt sizes (brought w g time s) n bs
   brought_there w g time n bs h off absent =

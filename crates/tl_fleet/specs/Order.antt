@@ -58,10 +58,14 @@ EachStands sizes header sight n [] = ⊤
 EachStands sizes header sight n (worker ∷ workers) =
     ((worker.store.capacity ≡ header.capacity) × StandsAt sizes sight n worker.store.blocks) × EachStands sizes header sight (n + 1) workers
 
-abbrev pub Stands : Sizes → Header → Sight → Workers → Type 0
-Stands sizes header sight workers = (length workers ≡ header.workers) × EachStands sizes header sight 0 workers
+-- no file is on any other worker
+abbrev pub IsWithin : Header → Sight → Type 0
+IsWithin header sight = (f : FileId) (w : WorkerId) → sight.place f ≡ Some w → w.0 < header.workers
 
--- as many workers as the header says, each with the blocks of the files that the past has there, in their order
+abbrev pub Stands : Sizes → Header → Sight → Workers → Type 0
+Stands sizes header sight workers = (length workers ≡ header.workers) × EachStands sizes header sight 0 workers × IsWithin header sight
+
+-- as many workers as the header says, each with the blocks of just the files that the past has there, in their order
 abbrev pub StandsInOrder : Sizes → Header → Past → Workers → Type 0
 StandsInOrder sizes header past workers = Stands sizes header (sight_of past) workers
 

@@ -49,6 +49,9 @@ found f workers = found_from 0 f workers
 abbrev pub found_block : WorkerId × Bor FileOutcome → WorkerId × FileOutcome
 found_block found = (found.0, found.1.now)
 
+abbrev pub worker_found : WorkerId × FileOutcome → WorkerId
+worker_found found = found.0
+
 abbrev pub incarnation_of : Worker → ℕ
 incarnation_of worker = worker.incarnation
 

@@ -1,12 +1,13 @@
-ghost use Rattle.std.specs.Prelude.{◌≡◌, ◌+◌, ◌<◌, ◌≤◌, ◌^◌, ◌-◌, ◌==◌, false, [], Some, length, slice_get, IfSome, IfOk, IfErr, OnOk, OnErr};
+ghost use Rattle.std.specs.Prelude.{◌≡◌, ◌+◌, ◌<◌, ◌≤◌, ◌^◌, ◌-◌, ◌==◌, false, [], Some, length, slice_get, is_some, IfSome, IfOk, IfErr, OnOk, OnErr};
 ghost use Rattle.std.specs.Option.{option_map};
-ghost use Rattle.tl_fleet.specs.Workers.{IsOnce, new_workers, is_resident, found, found_block, installed, all_touched, all_without, lost, first_to_drop, dropped, incarnation_of, changed_at, with_blocks, put_front, emptied, to_drop};
+ghost use Rattle.tl_fleet.specs.Workers.{IsOnce, new_workers, is_resident, found, found_block, worker_found, installed, all_touched, all_without, lost, first_to_drop, dropped, incarnation_of, changed_at, with_blocks, put_front, emptied, to_drop};
 ghost use Rattle.tl_fleet.specs.Order.{IsNumbered, IsOfFile, ExceptsBy, StandsInOrder, due, sight_of};
 ghost use Rattle.tl_fleet.specs.Events.{after_load, after_served, after_free, after_drop, after_loss};
 ghost use Rattle.tl_types.specs.declared.actor.Actor.{Actor as By};
 ghost use Rattle.tl_types.specs.declared.digest.Digest.{Digest as Sum};
 ghost use Rattle.tl_model.specs.Eviction.{Sizes};
 ghost use Rattle.tl_model.specs.Past.{Past};
+ghost use Rattle.tl_model.specs.Residency.{place};
 ghost use Rattle.tl_model.specs.declared.header.Header.{Header};
 ghost use Rattle.tl_store.specs.Contents.{without};
 
@@ -83,13 +84,17 @@ impl Fleet {
     pub fn find(&self, f: FileId) -> Option<(WorkerId, &Shared<Block>)>
         ensures found { option_map found_block result ≡ found f self.now }
         ensures once { IsOnce self.now }
+        ensures stands { (sizes : Sizes) (header : Header) (past : Past) → StandsInOrder sizes header past self.now →
+            option_map worker_found (option_map found_block result) ≡ place past f }
     {
         find_in(&self.workers, f)
     }
 
     /// Whether a worker has a file.
     pub fn is_resident(&self, f: FileId) -> bool
-        ensures { result ≡ is_resident f self.now }
+        ensures resident { result ≡ is_resident f self.now }
+        ensures stands { (sizes : Sizes) (header : Header) (past : Past) → StandsInOrder sizes header past self.now →
+            result ≡ is_some (place past f) }
     {
         resident_in(&self.workers, f)
     }

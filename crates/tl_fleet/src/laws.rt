@@ -1,6 +1,6 @@
 //! The events that concern several files in memory, or none, keep the order of the blocks.
 
-ghost use Rattle.std.specs.Prelude.{◌≡◌, ◌&&◌, ◌∷◌, List, false, true, is_none};
+ghost use Rattle.std.specs.Prelude.{◌≡◌, ◌<◌, ◌&&◌, ◌∷◌, List, false, true, is_none};
 ghost use Rattle.std.specs.List.{AllByRecursion};
 ghost use Rattle.tl_types.specs.declared.actor.Actor.{Actor};
 ghost use Rattle.tl_types.specs.declared.file_id.FileId.{FileId};
@@ -20,7 +20,7 @@ ghost use Rattle.tl_fleet.specs.Workers.{Workers};
 /// so that the greatest output is in front, they leave the fleet standing in order.
 pub fn done_keeps_order()
     ensures { (sizes : Sizes) (header : Header) (past : Past) (actor : Actor) (w : WorkerId) (made : RecordId) (blocks : Blocks) (workers : Workers) →
-        StandsInOrder sizes header past workers → Ascends (files_of blocks) →
+        StandsInOrder sizes header past workers → w.0 < header.workers → Ascends (files_of blocks) →
         ((f : FileId) → among f (files_of blocks) ≡ (is_output past f made && is_none (place past f))) →
         AllByRecursion (λ block. block_size block ≡ sizes block.file) blocks →
         StandsInOrder sizes header (after_done actor w made past) (installed_each w blocks workers) }

@@ -26,4 +26,4 @@ returns-clause-stands c sizes header past actor stands of =
     let same = whole c.self.inside.workers.len c.install_at.new.workers c.self.inside.workers.items (search rules) (search rules) in
     on_ok c.install_at.result c.install_at.ensures.ok (λ ok.
     subst (λ ws. StandsInOrder sizes header (after_load actor c.args.w c.args.block.file past) ws) (sym (same ∙ ok ∙ ap (changed_at c.args.w.0 (with_blocks (put_front c.args.block))) now))
-    (load_stands sizes header past c.args.self.now stands actor c.args.w c.args.block c.requires.absent of))
+    (load_stands sizes header past c.args.self.now stands actor c.args.w c.args.block c.requires.worker c.requires.absent of))
