@@ -2,14 +2,14 @@ use Rattle.std.proofs.Common.{◌≡◌, ℕ, ◌+◌, List, [], ◌∷◌, Opti
 use Rattle.std.specs.Prelude.{IfSome}
 use Rattle.std.proofs.KnownBytes.{Appends-nil}
 use Rattle.tl_model.specs.declared.header.Header.{Header}
-use Rattle.tl_run.specs.declared.script.Op.{Op}
-use Rattle.tl_run.specs.declared.script.BadLine.{BadLine}
+use Rattle.tl_script.specs.declared.script.Op.{Op}
+use Rattle.tl_script.specs.declared.script.BadLine.{BadLine}
 use Rattle.tl_run.specs.declared.status.Status.{Status}
 use Rattle.tl_run.specs.declared.status.Status.TheVariants.{Done, BadWords, BadScript, ReadFault, WriteFault, NoMemory, TooLong}
-use Rattle.tl_run.specs.Script.{IsScript, IsRefused, SayAll, IsFirstBad}
+use Rattle.tl_script.specs.Script.{IsScript, IsRefused, SayAll, IsFirstBad}
 use Rattle.tl_run.specs.Alone.{Supply, Held, Answers, Refuses, Wrote, WroteAnswer, Ends, EndsWith, Finishes}
 use Rattle.tl_run.specs.Status.{code_of}
-use Rattle.tl_run.specs.Lines.{lines_of}
+use Rattle.tl_script.specs.Lines.{lines_of}
 
 -- what was written whole is what the status says
 whole : (before after : Supply) (sink sink' : Held) (status : Status) (text : List ℕ) → Answers before after status text → Wrote sink sink' text → Ends before after sink sink' status

@@ -4,16 +4,16 @@ use Rattle.std.specs.Global.{Global}
 use Rattle.std.specs.Io.KnownBytes.{Appends}
 use Rattle.tl_io.specs.Counts.{Rises}
 use Rattle.tl_model.specs.declared.header.Header.{Header}
-use Rattle.tl_run.specs.declared.script.Op.{Op}
-use Rattle.tl_run.specs.declared.script.BadLine.{BadLine}
-use Rattle.tl_run.specs.declared.script.BadLine.TheVariants as bad
+use Rattle.tl_script.specs.declared.script.Op.{Op}
+use Rattle.tl_script.specs.declared.script.BadLine.{BadLine}
+use Rattle.tl_script.specs.declared.script.BadLine.TheVariants as bad
 use Rattle.tl_run.specs.declared.status.Status.{Status}
 use Rattle.tl_run.specs.declared.status.Status.TheVariants.{Done, BadWords, BadScript, ReadFault, WriteFault, NoMemory, TooLong}
 use Rattle.tl_run.specs.declared.alone.Stop.{Stop}
 use Rattle.tl_run.specs.declared.alone.Stop.TheVariants as stop
 use Rattle.tl_run.specs.Status.{code_of}
-use Rattle.tl_run.specs.Lines.{lines_of}
-use Rattle.tl_run.specs.Script.{IsScript, IsRefused}
+use Rattle.tl_script.specs.Lines.{lines_of}
+use Rattle.tl_script.specs.Script.{IsScript, IsRefused}
 use Rattle.tl_run.specs.Streams.{RisesBy, ReadsAll, HasMore, WritesFront}
 use Rattle.tl_run.specs.Transcript.{transcript}
 

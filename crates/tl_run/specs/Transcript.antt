@@ -8,8 +8,8 @@ use Rattle.tl_run.specs.declared.call.Form.TheVariants as forms
 use Rattle.tl_run.specs.declared.call.Reply.{Reply}
 use Rattle.tl_run.specs.declared.call.Reply.TheVariants.{Made, Opened, Exists, NoSuch, TooMany}
 use Rattle.tl_run.specs.History.{reply_to, ticket_of}
-use Rattle.tl_run.specs.declared.script.Op.{Op}
-use Rattle.tl_run.specs.declared.script.Op.TheVariants.{Put, Cat}
+use Rattle.tl_script.specs.declared.script.Op.{Op}
+use Rattle.tl_script.specs.declared.script.Op.TheVariants.{Put, Cat}
 
 -- the command of a line, where a text stands for its ticket
 abbrev pub command_of : Op → Command (List ℕ)

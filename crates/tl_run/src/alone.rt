@@ -2,20 +2,19 @@
 
 ghost use Rattle.std.specs.Prelude.{◌≡◌, ◌++◌, ◌≢◌, List, ℕ, false, vec_len, IfOk, IfSome, MatchResult, OnOk};
 ghost use Rattle.tl_model.specs.declared.header.Header.{Header};
-ghost use Rattle.tl_run.specs.declared.script.Op.{Op};
-ghost use Rattle.tl_run.specs.Lines.{lines_of};
-ghost use Rattle.tl_run.specs.Script.{IsScript};
+ghost use Rattle.tl_script.specs.declared.script.Op.{Op};
+ghost use Rattle.tl_script.specs.Lines.{lines_of};
+ghost use Rattle.tl_script.specs.Script.{IsScript};
 ghost use Rattle.tl_run.specs.Alone.{Supply, Held, Plays, Ends, EndsWith, StopsFor, Finishes, refusal_text, kind_number};
 
-use crate::parse::parse;
 use crate::play::play;
 use crate::print::print_number;
 use crate::reading::{ReadError, read_all};
-use crate::script::{BadLine, ScriptError};
 use crate::status::Status;
 use crate::writing::write_all;
 use std::alloc::{AllocError, Global};
 use tl_io::{Depot, Sink, SinkError, Source, SureDepot};
+use tl_script::{BadLine, ScriptError, parse};
 
 /// Why there is no transcript.
 #[derive(Clone, Copy, Debug, PartialEq, Eq)]

@@ -5,21 +5,17 @@ mod alone;
 mod call;
 mod history;
 mod kept;
-mod parse;
 mod play;
 mod print;
 mod reading;
-mod script;
 mod status;
 #[cfg(test)]
 mod tests;
-mod text;
 mod words;
 mod writing;
 
 pub use alone::{Stop, alone_call};
 pub use call::{Call, Command, Form, Reply};
 pub use reading::INPUT_LIMIT;
-pub use script::{BadLine, Op, Script, ScriptError};
 pub use status::Status;
 pub use words::tachyon;

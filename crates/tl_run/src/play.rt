@@ -7,9 +7,9 @@ use crate::call::{Call, Command, Form, Reply};
 use crate::history::{reply_to, ticket_of};
 use crate::kept::Kept;
 use crate::print::{print_number, print_value};
-use crate::script::Op;
 use std::alloc::Global;
 use tl_io::SureDepot;
+use tl_script::Op;
 use tl_types::{Actor, NoMemory};
 
 /// The lines that are printed for a script's commands.

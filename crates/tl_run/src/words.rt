@@ -2,9 +2,9 @@
 
 ghost use Rattle.std.specs.Prelude.{◌≡◌, ◌≢◌, ◌↔◌, List, ℕ, IfSome, IsTrue, vec_len};
 ghost use Rattle.tl_model.specs.declared.header.Header.{Header};
-ghost use Rattle.tl_run.specs.declared.script.Op.{Op};
-ghost use Rattle.tl_run.specs.Lines.{lines_of};
-ghost use Rattle.tl_run.specs.Script.{IsScript};
+ghost use Rattle.tl_script.specs.declared.script.Op.{Op};
+ghost use Rattle.tl_script.specs.Lines.{lines_of};
+ghost use Rattle.tl_script.specs.Script.{IsScript};
 ghost use Rattle.tl_run.specs.Alone.{EndsWith, IsAlone, RefusesWords};
 
 use crate::alone::{alone_call, finish};

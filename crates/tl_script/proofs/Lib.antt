@@ -1,0 +1,4 @@
+pub mod LineLemmas
+pub mod Splits
+pub mod Numbers
+pub mod Commands

@@ -1,0 +1,9 @@
+//! The script as text: a header and then a command a line, read exactly.
+#![tactic(auto)]
+
+mod parsing;
+mod script;
+mod text;
+
+pub use parsing::parse;
+pub use script::{BadLine, Op, Script, ScriptError};
