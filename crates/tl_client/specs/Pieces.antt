@@ -1,0 +1,99 @@
+-- What a client's command leaves in the journal, and what it is answered.
+use Rattle.std.specs.Prelude.{◌≡◌, ◌⊎◌, ℕ, Bool, true, false, List, [], ◌∷◌, length, Some, None}
+use Rattle.sha2.specs.Sha256.{sha256}
+use Rattle.tl_types.specs.Block.{FileOutcome}
+use Rattle.tl_types.specs.Outcome.{digest_of}
+use Rattle.tl_types.specs.declared.actor.Actor.{Actor}
+use Rattle.tl_types.specs.declared.digest.Digest.{Digest}
+use Rattle.tl_types.specs.declared.file_id.FileId.{FileId}
+use Rattle.tl_types.specs.declared.record_id.RecordId.{RecordId}
+use Rattle.tl_types.specs.declared.worker_id.WorkerId.{WorkerId}
+use Rattle.tl_model.specs.declared.answer.Answer.{Answer}
+use Rattle.tl_model.specs.declared.answer.Answer.TheVariants.{Said, Read}
+use Rattle.tl_model.specs.declared.command.Command.{Command}
+use Rattle.tl_model.specs.declared.command.Command.TheVariants.{Put}
+use Rattle.tl_model.specs.declared.reply.Reply.{Reply}
+use Rattle.tl_model.specs.declared.reply.Reply.TheVariants.{Opened}
+use Rattle.tl_model.specs.declared.event.Act.TheVariants.{Call, Served, Claim, Done, Load}
+use Rattle.tl_model.specs.declared.event.Event.{Event}
+use Rattle.tl_model.specs.Journal.{call_count}
+use Rattle.tl_model.specs.Past.{Told, events_with, without_tickets}
+use Rattle.tl_model.specs.History.{calls_of, reply_after}
+use Rattle.tl_model.specs.Residency.{is_available}
+use Rattle.tl_model.specs.Plan.{next}
+use Rattle.tl_model.specs.Values.{value}
+use Rattle.tl_core.specs.Called.{put_made, with_saved}
+
+-- events whose tickets are the bytes themselves
+abbrev pub Events : Type 0
+Events = List (Event (List ℕ))
+
+abbrev pub told : Events → Told
+told events = events_with (λ bytes. bytes) events
+
+-- ---- one call
+
+abbrev pub call_event : {T : Type 0} → Actor → Command T → Reply → Event T
+call_event actor command reply = record { actor = actor; act = Call command reply }
+
+-- the command was answered as the history determines, at its number in the history; the journal has the call, and after
+-- an accepted put its Saved
+abbrev pub IsSaid : Events → Events → Actor → Command (List ℕ) → Answer → Type 0
+IsSaid before after actor command (Said at reply) =
+    (at ≡ call_count before) × (reply ≡ reply_after (calls_of before) command)
+    × (after ≡ with_saved actor (put_made reply command) (call_event actor command reply ∷ before))
+IsSaid before after actor command _ = ⊥
+
+-- the put of these bytes, with their length and digest
+abbrev pub IsPut : Events → Events → Actor → List (List ℕ) → List ℕ → Answer → Type 0
+IsPut before after actor path bytes answer =
+    (digest : Digest) × (digest.0 ≡ sha256 bytes) × IsSaid before after actor (Put path (length bytes) digest bytes) answer
+
+-- ---- running what is next
+
+abbrev pub with_run : {T : Type 0} → Actor → WorkerId → RecordId → List (Event T) → List (Event T)
+with_run actor worker made events = record { actor = actor; act = Done worker made } ∷ record { actor = actor; act = Claim worker made } ∷ events
+
+-- the actor ran these records one after another, the last first, each where it was next and the file wasn't available
+abbrev pub Ran : {T : Type 0} → Actor → WorkerId → FileId → List RecordId → List (Event T) → List (Event T) → Type 0
+Ran actor worker f [] before after = after ≡ before
+Ran {T} actor worker f (made ∷ earlier) before after =
+    (between : List (Event T)) × Ran actor worker f earlier before between
+    × (is_available (without_tickets between) f ≡ false) × (next (without_tickets between) ≡ Some made) × (after ≡ with_run actor worker made between)
+
+-- one record was run, or none is next and nothing was done
+abbrev pub RanNext : Events → Events → Actor → WorkerId → Bool → Type 0
+RanNext before after actor worker true =
+    (made : RecordId) × (next (without_tickets before) ≡ Some made) × (after ≡ with_run actor worker made before)
+RanNext before after actor worker false = (next (without_tickets before) ≡ None) × (after ≡ before)
+
+-- ---- a read
+
+-- the read was served, and before that the file was loaded to the worker, or not
+abbrev pub IsServed : {T : Type 0} → Actor → WorkerId → FileId → Digest → List (Event T) → List (Event T) → Type 0
+IsServed actor worker f digest before after =
+    (after ≡ record { actor = actor; act = Served f digest } ∷ before)
+    ⊎ (after ≡ record { actor = actor; act = Served f digest } ∷ record { actor = actor; act = Load worker f } ∷ before)
+
+-- from these events on, what is next was run until the file was available; then the read was served by its block, which is what the
+-- file holds in the run without failures
+pub record IsReadThrough (before after : Events) (actor : Actor) (worker : WorkerId) (f : FileId) (block : FileOutcome) : Type 0 where
+  pub ran : List RecordId
+  pub served_at : Events
+  pub digest : Digest
+  pub runs : Ran actor worker f ran before served_at
+  pub served : IsServed actor worker f digest served_at after
+  pub file : block.file ≡ f
+  pub outcome : block.outcome ≡ value (told after) f
+  pub digest_is : digest.0 ≡ digest_of block.outcome
+
+-- the call of the read, and what came after it
+abbrev pub IsReadOf : Events → Events → Actor → WorkerId → Command (List ℕ) → FileId → Answer → Type 0
+IsReadOf before after actor worker command f (Read at block) =
+    (at ≡ call_count before) × IsReadThrough (call_event actor command (Opened f) ∷ before) after actor worker f block
+IsReadOf before after actor worker command f _ = ⊥
+
+-- a read that was answered so by the namespace
+abbrev pub IsRead : Events → Events → Actor → WorkerId → Command (List ℕ) → Reply → Answer → Type 0
+IsRead before after actor worker command (Opened f) answer = IsReadOf before after actor worker command f answer
+IsRead before after actor worker command _ answer = IsSaid before after actor command answer
