@@ -1,4 +1,6 @@
 pub mod LineLemmas
 pub mod Splits
 pub mod Numbers
+pub mod PathLemmas
+pub mod JobLines
 pub mod Commands

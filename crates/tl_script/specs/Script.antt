@@ -1,10 +1,13 @@
 -- The script: a header, and then a command a line.
 use Rattle.std.specs.Prelude.{ℕ, ◌≡◌, ◌+◌, ◌≤◌, ◌⊎◌, List, [], ◌∷◌, ◌++◌, length, codes, decimal, Bool, ◌&&◌, not, nat_le, ◌==◌, IsTrue}
-use Rattle.std.specs.List.{list_all}
+use Rattle.std.specs.List.{AllByRecursion, list_all}
 use Rattle.tl_types.specs.Path.{IsPath, spelled}
+use Rattle.tl_lang.specs.declared.job.JobSpecCore.{JobSpecCore}
+use Rattle.tl_lang.specs.Kinds.{KindsHold}
+use Rattle.tl_kind.specs.Written.{IsWithin, program_text}
 use Rattle.tl_model.specs.declared.header.Header.{Header}
 use Rattle.tl_script.specs.declared.script.Op.{Op}
-use Rattle.tl_script.specs.declared.script.Op.TheVariants.{Put, Cat}
+use Rattle.tl_script.specs.declared.script.Op.TheVariants.{Put, Job, Cat, Lose}
 use Rattle.tl_script.specs.declared.script.BadLine.{BadLine}
 use Rattle.tl_script.specs.declared.script.BadLine.TheVariants.{Header as bad_header, Command}
 use Rattle.tl_script.specs.declared.script.ScriptError.{ScriptError}
@@ -29,15 +32,45 @@ pub record IsHeader (h : Header) : Type 0 where
 abbrev pub header_text : Header → List ℕ
 header_text h = codes "tachyon 1 workers 1 capacity " ++ (decimal h.capacity ++ (codes " hot " ++ decimal h.hot))
 
+-- a job of one input and one output, with no configuration, whose program is within the limits of
+-- its text and keeps the kind rules
+pub record IsJob (core : JobSpecCore) (prio : ℕ) (inputs outputs : List (List (List ℕ))) : Type 0 where
+  pub priority : prio ≤ 7
+  pub some_fuel : 1 ≤ core.fuel
+  pub fuel : core.fuel ≤ 16777216
+  pub no_conf : core.conf ≡ []
+  pub one_input : length inputs ≡ 1
+  pub one_output : length outputs ≡ 1
+  pub input_paths : AllByRecursion IsTopPath inputs
+  pub output_paths : AllByRecursion IsTopPath outputs
+  pub program : IsWithin core.program.program
+  pub for_inputs : core.program.inputs ≡ length inputs
+  pub for_outputs : core.program.outputs ≡ length outputs
+  pub kinds : KindsHold core.program.program core.program.inputs core.program.outputs
+
 -- a command that has a line
 abbrev pub IsOp : Op → Type 0
 IsOp (Put path text) = IsTopPath path × IsTrue (list_all is_plain text)
+IsOp (Job core prio inputs outputs) = IsJob core prio inputs outputs
 IsOp (Cat prio path) = (prio ≤ 7) × IsTopPath path
+IsOp (Lose worker) = worker.0 ≡ 0
+
+-- a space and each path, and then more
+abbrev pub with_paths : List (List (List ℕ)) → List ℕ → List ℕ
+with_paths [] more = more
+with_paths (path ∷ paths) more = 0x20 ∷ (spelled path ++ with_paths paths more)
+
+abbrev pub job_text : JobSpecCore → ℕ → List (List (List ℕ)) → List (List (List ℕ)) → List ℕ
+job_text core prio inputs outputs =
+    codes "0 job " ++ (decimal prio ++ (codes " " ++ (decimal core.fuel ++ (codes " in" ++ with_paths inputs (codes " out" ++ with_paths outputs
+    (codes " run " ++ program_text core.program.program))))))
 
 -- the line of client 0 that says the command
 abbrev pub line_text : Op → List ℕ
 line_text (Put path text) = codes "0 put " ++ (spelled path ++ (codes " \"" ++ (text ++ codes "\"")))
+line_text (Job core prio inputs outputs) = job_text core prio inputs outputs
 line_text (Cat prio path) = codes "0 cat " ++ (decimal prio ++ (codes " " ++ spelled path))
+line_text (Lose worker) = codes "0 lose " ++ decimal worker.0
 
 -- the line says the command, in at most 65,536 bytes
 pub record Says (line : List ℕ) (op : Op) : Type 0 where

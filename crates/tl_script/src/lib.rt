@@ -1,6 +1,8 @@
 //! The script as text: a header and then a command a line, read exactly.
 #![tactic(auto)]
 
+mod fields;
+mod job;
 mod parsing;
 mod script;
 mod text;

@@ -1,19 +1,20 @@
 //! Reading a script: each line is taken apart at its words, and its parts are read.
 
-ghost use Rattle.std.specs.Prelude.{◌≡◌, ◌≢◌, ℕ, ◌+◌, ◌≤◌, ◌<◌, ◌^◌, ◌++◌, ◌∷◌, List, length, codes, decimal, IfOk, IfSome, IfNone, IfErr, IsTrue};
+ghost use Rattle.std.specs.Prelude.{◌≡◌, ◌≢◌, ℕ, ◌≤◌, ◌<◌, ◌^◌, ◌++◌, List, length, codes, IfOk, IfSome, IfNone, IfErr};
 ghost use Rattle.std.specs.List.{All, list_all};
-ghost use Rattle.tl_types.specs.Path.{spelled};
 ghost use Rattle.tl_model.specs.declared.header.Header.{Header};
 ghost use Rattle.tl_script.specs.declared.script.Op.{Op};
 ghost use Rattle.tl_script.specs.Lines.{lines_of, IsOther};
-ghost use Rattle.tl_script.specs.Script.{is_plain, IsTopPath, IsHeader, header_text, IsOp, line_text, Says, SayAll, IsScript, IsFirstBad, IsRefused, IsBadBody, IsBadScript};
-ghost use Rattle.tl_script.specs.Parts.{IsPutOf, IsCatOf};
+ghost use Rattle.tl_script.specs.Script.{is_plain, IsHeader, header_text, IsOp, line_text, Says, SayAll, IsScript, IsFirstBad, IsRefused, IsBadBody, IsBadScript};
+ghost use Rattle.tl_script.specs.Parts.{IsPutOf, IsCatOf, IsLoseOf};
 
+use crate::fields::{number_within, path_of};
+use crate::job::{job_of, job_parts};
 use crate::script::{BadLine, Op, Script, ScriptError};
-use crate::text::{after, around, before, first_line, number};
+use crate::text::{after, around, before, first_line};
 use std::alloc::{AllocError, Global};
 use tl_model::Header;
-use tl_types::{Bytes, Path, Prio};
+use tl_types::{Bytes, Prio, WorkerId};
 
 const SPACE: u8 = b' ';
 
@@ -57,20 +58,6 @@ fn header_of(alloc: Global, line: &[u8]) -> Result<Option<Header>, AllocError>
     }))
 }
 
-/// The number from `low` to `high` that a text spells.
-fn number_within(alloc: Global, text: &[u8], low: u64, high: u64) -> Result<Option<u64>, AllocError>
-    ensures found { IfOk result (λ answer. IfSome answer (λ n. (low ≤ n) × (n ≤ high) × (text.now ≡ decimal n))) }
-    ensures none { IfOk result (λ answer. IfNone answer ((n : ℕ) → low ≤ n → n ≤ high → text.now ≢ decimal n)) }
-{
-    let Some(n) = number(alloc, text)? else {
-        return Ok(None);
-    };
-    if low <= n && n <= high {
-        return Ok(Some(n));
-    }
-    Ok(None)
-}
-
 /// The path and the text of a put's line, as they are spelled.
 fn put_parts(line: &[u8]) -> Option<(&[u8], &[u8])>
     ensures found { IfSome result (λ parts. line.now ≡ codes "0 put " ++ (parts.0.now ++ (codes " \"" ++ (parts.1.now ++ codes "\"")))) }
@@ -89,19 +76,6 @@ fn cat_parts(line: &[u8]) -> Option<(&[u8], &[u8])>
 {
     let (prio, path) = around(SPACE, after(line, b"0 cat ")?)?;
     Some((prio, path))
-}
-
-/// The path of one component that a text spells.
-fn path_of(alloc: Global, text: &[u8]) -> Result<Option<Path>, AllocError>
-    ensures found { IfOk result (λ answer. IfSome answer (λ path. IsTopPath path × (text.now ≡ spelled path))) }
-    ensures none { IfOk result (λ answer. IfNone answer ((path : List (List ℕ)) → IsTopPath path → text.now ≢ spelled path)) }
-{
-    let Some(component) = after(text, b"/") else {
-        return Ok(None);
-    };
-    let mut parts = Vec::new(alloc);
-    parts.push(Vec::from_slice(alloc, component)?)?;
-    Ok(Path::new(parts))
 }
 
 /// Whether each byte stands for itself in a quoted text.
@@ -143,6 +117,19 @@ fn cat_of(alloc: Global, prio: &[u8], path: &[u8]) -> Result<Option<Op>, AllocEr
     Ok(Some(Op::Cat { prio, path }))
 }
 
+/// The loss of a worker, as it is spelled.
+fn lose_of(alloc: Global, worker: &[u8]) -> Result<Option<Op>, AllocError>
+    ensures found { IfOk result (λ answer. IfSome answer (IsLoseOf worker.now)) }
+    ensures none { IfOk result (λ answer. IfNone answer ((op : Op) → IsLoseOf worker.now op → ⊥)) }
+{
+    let Some(worker) = number_within(alloc, worker, 0, 0)? else {
+        return Ok(None);
+    };
+    Ok(Some(Op::Lose {
+        worker: WorkerId(worker as u8),
+    }))
+}
+
 /// The command that a line says.
 fn op_of(alloc: Global, line: &[u8]) -> Result<Option<Op>, AllocError>
     ensures found { IfOk result (λ answer. IfSome answer (Says line.now)) }
@@ -154,8 +141,14 @@ fn op_of(alloc: Global, line: &[u8]) -> Result<Option<Op>, AllocError>
     if let Some((path, text)) = put_parts(line) {
         return put_of(alloc, path, text);
     }
+    if let Some(parts) = job_parts(line) {
+        return job_of(alloc, parts);
+    }
     if let Some((prio, path)) = cat_parts(line) {
         return cat_of(alloc, prio, path);
+    }
+    if let Some(worker) = after(line, b"0 lose ") {
+        return lose_of(alloc, worker);
     }
     Ok(None)
 }

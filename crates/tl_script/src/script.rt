@@ -1,19 +1,37 @@
-//! The script of one client: a header, and then a put or a read on each line.
+//! The script of one client: a header, and then a command on each line.
 
 ghost use Rattle.std.specs.Prelude.{◌≡◌};
 ghost use Rattle.tl_script.specs.declared.script.ScriptError.TheVariants.{NoMemory};
 
 use std::alloc::{AllocError, AllocFailed};
+use tl_lang::JobSpecCore;
 use tl_model::Header;
-use tl_types::{Bytes, Path, Prio};
+use tl_types::{Bytes, Items, Path, Prio, Shared, WorkerId};
 
 /// A command of a script.
 #[derive(Debug, Drop)]
 pub enum Op {
     /// Makes a file of a text.
-    Put { path: Path, text: Bytes },
+    Put {
+        path: Path,
+        text: Bytes,
+    },
+    /// Records a job that makes the outputs from the inputs.
+    Job {
+        core: Shared<JobSpecCore>,
+        prio: Prio,
+        inputs: Items<Path>,
+        outputs: Items<Path>,
+    },
     /// Reads a file.
-    Cat { prio: Prio, path: Path },
+    Cat {
+        prio: Prio,
+        path: Path,
+    },
+    /// Loses a worker, with what is in its memory.
+    Lose {
+        worker: WorkerId,
+    },
 }
 
 /// A script that was read.

@@ -34,6 +34,15 @@ pub(crate) fn around(byte: u8, text: &[u8]) -> Option<(&[u8], &[u8])>
     Some((&text[..place], &text[place + 1..]))
 }
 
+/// The text before the first space and the text behind it, which begins with `gap`, without the gap.
+pub(crate) fn cut_at<'a>(text: &'a [u8], gap: &[u8]) -> Option<(&'a [u8], &'a [u8])>
+    ensures found { IfSome result (λ parts. (text.now ≡ parts.0.now ++ 32 ∷ (gap.now ++ parts.1.now)) × All (IsOther 32) parts.0.now) }
+    ensures none { IfNone result ((part rest : List ℕ) → All (IsOther 32) part → text.now ≡ part ++ 32 ∷ (gap.now ++ rest) → ⊥) }
+{
+    let (part, rest) = around(b' ', text)?;
+    Some((part, after(rest, gap)?))
+}
+
 /// The first line of a text that isn't empty, and the text behind its line feed.
 pub(crate) fn first_line(text: &[u8]) -> (&[u8], &[u8])
     requires { 0 < length text.now }

@@ -1,6 +1,6 @@
 use Rattle.std.proofs.Common.{◌∙◌, sym, arith}
 use Rattle.std.proofs.lemmas.Fmt.{decimal_injective}
-use Rattle.tl_script.proofs.parsing.number_within.Goals as goal
+use Rattle.tl_script.proofs.fields.number_within.Goals as goal
 
 pub returns-clause-none : goal.returns-clause-none
 returns-clause-none c n below above e =
