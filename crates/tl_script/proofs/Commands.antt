@@ -28,25 +28,25 @@ some_weaker (Err e) f h = tt
 
 -- ---- lines are told apart by the first letter of their word
 
-p_is_not_j : ◌≡◌ {A = ℕ} 112 106 → ⊥
+pub p_is_not_j : ◌≡◌ {A = ℕ} 112 106 → ⊥
 p_is_not_j h = omega arith
 
-p_is_not_c : ◌≡◌ {A = ℕ} 112 99 → ⊥
+pub p_is_not_c : ◌≡◌ {A = ℕ} 112 99 → ⊥
 p_is_not_c h = omega arith
 
-p_is_not_l : ◌≡◌ {A = ℕ} 112 108 → ⊥
+pub p_is_not_l : ◌≡◌ {A = ℕ} 112 108 → ⊥
 p_is_not_l h = omega arith
 
-j_is_not_c : ◌≡◌ {A = ℕ} 106 99 → ⊥
+pub j_is_not_c : ◌≡◌ {A = ℕ} 106 99 → ⊥
 j_is_not_c h = omega arith
 
-j_is_not_l : ◌≡◌ {A = ℕ} 106 108 → ⊥
+pub j_is_not_l : ◌≡◌ {A = ℕ} 106 108 → ⊥
 j_is_not_l h = omega arith
 
-c_is_not_l : ◌≡◌ {A = ℕ} 99 108 → ⊥
+pub c_is_not_l : ◌≡◌ {A = ℕ} 99 108 → ⊥
 c_is_not_l h = omega arith
 
-abbrev letter : List ℕ → ℕ
+abbrev pub letter : List ℕ → ℕ
 letter bytes = get_or bytes 2 0
 
 -- a line with a put's parts says only what they say

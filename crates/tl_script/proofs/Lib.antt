@@ -4,3 +4,4 @@ pub mod Numbers
 pub mod PathLemmas
 pub mod JobLines
 pub mod Commands
+pub mod Unique

@@ -1,5 +1,5 @@
 -- The script: a header, and then a command a line.
-use Rattle.std.specs.Prelude.{ℕ, ◌≡◌, ◌+◌, ◌≤◌, ◌⊎◌, List, [], ◌∷◌, ◌++◌, length, codes, decimal, Bool, ◌&&◌, not, nat_le, ◌==◌, IsTrue}
+use Rattle.std.specs.Prelude.{ℕ, ◌≡◌, ◌+◌, ◌≤◌, ◌⊎◌, List, [], ◌∷◌, ◌++◌, length, codes, decimal, Bool, ◌&&◌, not, nat_le, ◌==◌, IsTrue, Result, Ok, Err}
 use Rattle.std.specs.List.{AllByRecursion, list_all}
 use Rattle.tl_types.specs.Path.{IsPath, spelled}
 use Rattle.tl_lang.specs.declared.job.JobSpecCore.{JobSpecCore}
@@ -10,6 +10,7 @@ use Rattle.tl_script.specs.declared.script.Op.{Op}
 use Rattle.tl_script.specs.declared.script.Op.TheVariants.{Put, Job, Cat, Lose}
 use Rattle.tl_script.specs.declared.script.BadLine.{BadLine}
 use Rattle.tl_script.specs.declared.script.BadLine.TheVariants.{Header as bad_header, Command}
+use Rattle.tl_script.specs.declared.script.Script.{Script}
 use Rattle.tl_script.specs.declared.script.ScriptError.{ScriptError}
 use Rattle.tl_script.specs.declared.script.ScriptError.TheVariants.{Bad, NoMemory}
 
@@ -116,3 +117,9 @@ IsBadBody lines NoMemory = Unit {0}
 abbrev pub IsBadScript : List (List ℕ) → ScriptError → Type 0
 IsBadScript lines (Bad at kind) = IsRefused lines at kind
 IsBadScript lines NoMemory = Unit {0}
+
+-- the script is read, unless memory ran out
+abbrev pub Reads : Result Script ScriptError → Header → List Op → Type 0
+Reads (Ok script) header ops = (script.header ≡ header) × (script.ops.items ≡ ops)
+Reads (Err (Bad at kind)) header ops = ⊥
+Reads (Err NoMemory) header ops = Unit {0}

@@ -3,8 +3,11 @@
 
 mod fields;
 mod job;
+pub mod laws;
 mod parsing;
 mod script;
+#[cfg(test)]
+mod tests;
 mod text;
 
 pub use parsing::parse;

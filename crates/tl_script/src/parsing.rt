@@ -5,11 +5,12 @@ ghost use Rattle.std.specs.List.{All, list_all};
 ghost use Rattle.tl_model.specs.declared.header.Header.{Header};
 ghost use Rattle.tl_script.specs.declared.script.Op.{Op};
 ghost use Rattle.tl_script.specs.Lines.{lines_of, IsOther};
-ghost use Rattle.tl_script.specs.Script.{is_plain, IsHeader, header_text, IsOp, line_text, Says, SayAll, IsScript, IsFirstBad, IsRefused, IsBadBody, IsBadScript};
+ghost use Rattle.tl_script.specs.Script.{is_plain, IsHeader, header_text, IsOp, line_text, Says, SayAll, IsScript, IsFirstBad, IsRefused, IsBadBody, IsBadScript, Reads};
 ghost use Rattle.tl_script.specs.Parts.{IsPutOf, IsCatOf, IsLoseOf};
 
 use crate::fields::{number_within, path_of};
 use crate::job::{job_of, job_parts};
+use crate::laws::one_command;
 use crate::script::{BadLine, Op, Script, ScriptError};
 use crate::text::{after, around, before, first_line};
 use std::alloc::{AllocError, Global};
@@ -177,8 +178,19 @@ fn ops_of(alloc: Global, text: &[u8]) -> Result<Vec<Op>, ScriptError>
     Ok(ops)
 }
 
-/// The script that a text spells.
+/// The script that a text spells. A refusal names the first line that is refused.
 pub fn parse(alloc: Global, text: &[u8]) -> Result<Script, ScriptError>
+    requires { length text.now < 2 ^ 32 }
+    ensures read { IfOk result (λ script. IsScript (lines_of text.now) script.header script.ops.items) }
+    ensures only { (header : Header) (ops : List Op) → IsScript (lines_of text.now) header ops → Reads result header ops }
+    ensures refused { IfErr result (λ e. IsBadScript (lines_of text.now) e) }
+{
+    one_command();
+    script_of(alloc, text)
+}
+
+// Reads a script.
+fn script_of(alloc: Global, text: &[u8]) -> Result<Script, ScriptError>
     requires { length text.now < 2 ^ 32 }
     ensures read { IfOk result (λ script. IsScript (lines_of text.now) script.header script.ops.items) }
     ensures refused { IfErr result (λ e. IsBadScript (lines_of text.now) e) }

@@ -1,0 +1,5 @@
+use Rattle.tl_script.proofs.Unique.{never_refused}
+use Rattle.tl_script.proofs.laws.a_script_is_not_refused.Goals as goal
+
+pub returns : goal.returns
+returns c = λ lines header ops at kind h refused. never_refused lines header ops at kind h refused
