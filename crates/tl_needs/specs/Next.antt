@@ -95,10 +95,6 @@ claim-lost : (made : RecordId) (b : Bool) (o : Option OpenClaim) → claims_reco
 claim-lost made true o h = absurd (cc)
 claim-lost made false o h = h
 
-if-same : {A : Type 0} (b : Bool) (x : A) → (if b then x else x) ≡ x
-if-same true x = refl
-if-same false x = refl
-
 abbrev pub claim_next : Bool → Act (Unit {0}) → Option OpenClaim → Option OpenClaim
 claim_next b act o = claim_after_loss act (if b then claim_after act o else o)
 
