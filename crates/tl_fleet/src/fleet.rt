@@ -18,7 +18,9 @@ use tl_store::{Excepted, Store};
 use tl_types::{Block, FileId, NoMemory, Shared, WorkerId};
 
 /// The memory of all workers. Contracts see the list of the workers, each with its incarnation and
-/// the blocks in its memory, the most recently used first.
+/// the blocks in its memory, the most recently used first. A fleet stands in order for a past where each
+/// worker has the blocks of just the files that the past has there, the soonest to be evicted last; the
+/// clauses `stands` say what that gives, and for which event it stands so after a call.
 #[derive(Drop)]
 pub struct Fleet {
     workers: Vec<Worker>,
@@ -66,8 +68,9 @@ impl Fleet {
         self.workers.is_empty()
     }
 
-    /// Puts a block of a file that is on no worker in front at `w`. `Err` is want of memory; it hands
-    /// the block back, and nothing changed.
+    /// Puts a block of a file that is on no worker in front at `w`, as a load brings it; its size is that
+    /// of its file, which a record makes. `Err` is want of memory; it hands the block back, and nothing
+    /// changed.
     pub fn install(&mut self, w: WorkerId, block: Shared<Block>) -> Result<(), Shared<Block>>
         requires worker { w.0 < length self.old }
         requires absent { is_resident block.file self.old ≡ false }
@@ -137,7 +140,8 @@ impl Fleet {
     }
 
     /// Drops the least recently used file that is not excepted from the least worker that is over
-    /// its capacity and has such a file. `None` where there is no such worker.
+    /// its capacity and has such a file. `None` where there is no such worker. Where the fleet stands in
+    /// order and just the pinned and the wanted files are excepted, it is what the past says is `due`.
     pub fn settle_one<X: Excepted>(&mut self, x: &X) -> Option<(WorkerId, FileId)>
         ensures first { result ≡ first_to_drop (X.excepted x.now) self.old }
         ensures dropped { self.new ≡ dropped result self.old }
@@ -170,7 +174,14 @@ fn lose_at(workers: &mut [Worker], w: usize)
     requires incarnation { IfSome (slice_get workers.old w) (λ worker. worker.incarnation < 2 ^ 64 - 1) }
     ensures { workers.new ≡ changed_at w emptied workers.old }
 {
-    let worker = &mut workers[w];
+    empty(&mut workers[w]);
+}
+
+// Takes all blocks from a worker, and raises its incarnation by one.
+fn empty(worker: &mut Worker)
+    requires { worker.old.incarnation < 2 ^ 64 - 1 }
+    ensures { worker.new ≡ emptied worker.old }
+{
     worker.store.clear();
     worker.incarnation += 1;
 }
