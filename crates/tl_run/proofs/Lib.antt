@@ -1,3 +1,4 @@
 pub mod Streams
 pub mod Endings
 pub mod WordLemmas
+pub mod Scripts

@@ -15,7 +15,8 @@ use Rattle.tl_run.specs.Status.{code_of}
 use Rattle.tl_script.specs.Lines.{lines_of}
 use Rattle.tl_script.specs.Script.{IsScript, IsRefused}
 use Rattle.tl_run.specs.Streams.{RisesBy, ReadsAll, HasMore, WritesFront}
-use Rattle.tl_run.specs.Transcript.{transcript}
+use Rattle.tl_client.specs.Pieces.{Events}
+use Rattle.tl_run.specs.Plays.{PlaysOut}
 
 -- what is known of a source: the bytes left, where told, how many were given, and its faults
 pub record Supply : Type 0 where
@@ -46,14 +47,15 @@ kind_number bad.Command = 3
 abbrev pub refusal_text : ℕ → BadLine → List ℕ
 refusal_text line kind = codes "script line " ++ (decimal line ++ (codes " kind " ++ (decimal (kind_number kind) ++ codes "\n")))
 
--- the input spells the script, and the text is its transcript
+-- the input spells the script; its lines were done on an empty cluster of its header, and the text is what was printed of them
 pub record Plays (before after : Supply) (text : List ℕ) : Type 0 where
   pub bytes : List ℕ
   pub header : Header
   pub ops : List Op
   pub input : IsInput before after bytes
   pub script : IsScript (lines_of bytes) header ops
-  pub printed : text ≡ transcript ops
+  pub journal : Events
+  pub played : PlaysOut header ops journal text
 
 -- the input spells no script, and the text names its first refused line
 pub record Refuses (before after : Supply) (text : List ℕ) : Type 0 where

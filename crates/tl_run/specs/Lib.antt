@@ -1,5 +1,4 @@
-pub mod History
-pub mod Transcript
+pub mod Plays
 pub mod Streams
 pub mod Status
 pub mod Alone

@@ -8,13 +8,14 @@ ghost use Rattle.tl_script.specs.Script.{IsScript};
 ghost use Rattle.tl_run.specs.Alone.{Supply, Held, Plays, Ends, EndsWith, StopsFor, Finishes, refusal_text, kind_number};
 
 use crate::play::play;
-use crate::print::print_number;
 use crate::reading::{ReadError, read_all};
 use crate::status::Status;
 use crate::writing::write_all;
-use std::alloc::{AllocError, Global};
-use tl_io::{Depot, Sink, SinkError, Source, SureDepot};
+use std::alloc::Global;
+use tl_io::{Depot, Sink, SinkError, Source};
 use tl_script::{BadLine, ScriptError, parse};
+use tl_text::print_number;
+use tl_types::NoMemory;
 
 /// Why there is no transcript.
 #[derive(Clone, Copy, Debug, PartialEq, Eq)]
@@ -101,14 +102,14 @@ fn transcript_of<I: Source>(alloc: Global, input: &mut I) -> Result<Vec<u8>, Sto
         Err(ScriptError::Bad { line, kind }) => return Err(Stop::BadScript { line, kind }),
         Err(ScriptError::NoMemory) => return Err(Stop::NoMemory),
     };
-    let Ok(text) = play(alloc, &mut SureDepot::new(), &script.ops) else {
+    let Ok(finished) = play(alloc, script.header, script.ops) else {
         return Err(Stop::NoMemory);
     };
-    Ok(text)
+    Ok(finished.text)
 }
 
 // The text that names a refused line.
-fn refusal(alloc: Global, line: u64, kind: BadLine) -> Result<Vec<u8>, AllocError>
+fn refusal(alloc: Global, line: u64, kind: BadLine) -> Result<Vec<u8>, NoMemory>
     ensures { IfOk result (λ text. text.items ≡ refusal_text line kind) }
 {
     let mut text = Vec::from_slice(alloc, b"script line ")?;

@@ -2,11 +2,7 @@
 #![tactic(auto)]
 
 mod alone;
-mod call;
-mod history;
-mod kept;
 mod play;
-mod print;
 mod reading;
 mod status;
 #[cfg(test)]
@@ -15,7 +11,6 @@ mod words;
 mod writing;
 
 pub use alone::{Stop, alone_call};
-pub use call::{Call, Command, Form, Reply};
 pub use reading::INPUT_LIMIT;
 pub use status::Status;
 pub use words::tachyon;

@@ -1,92 +1,86 @@
 //! Doing the lines of a script, one after another.
 
-ghost use Rattle.std.specs.Prelude.{◌≡◌, ◌++◌, ◌∷◌, [], List, ℕ, reverse, OnOk, IfOk};
-ghost use Rattle.tl_run.specs.Transcript.{command_of, call_of, words, line_of, lines_after, transcript};
+ghost use Rattle.std.specs.Prelude.{◌≡◌, ◌<◌, IfOk};
+ghost use Rattle.std.specs.List.{AllByRecursion};
+ghost use Rattle.tl_core.specs.Answers.{past_of};
+ghost use Rattle.tl_client.specs.Rest.{IsAtRest};
+ghost use Rattle.tl_script.specs.Script.{IsOp};
+ghost use Rattle.tl_run.specs.Plays.{client, IsPiece, PlaysOut};
 
-use crate::call::{Call, Command, Form, Reply};
-use crate::history::{reply_to, ticket_of};
-use crate::kept::Kept;
-use crate::print::{print_number, print_value};
 use std::alloc::Global;
-use tl_io::SureDepot;
+use tl_client::{lose, put, read, submit};
+use tl_core::Cluster;
+use tl_io::{MemTicket, SureDepot};
+use tl_model::{Answer, Form, Header};
+use tl_report::transcript_line;
 use tl_script::Op;
-use tl_types::{Actor, NoMemory};
+use tl_types::{Actor, NoMemory, WorkerId};
 
-/// The lines that are printed for a script's commands.
-pub(crate) fn play(alloc: Global, depot: &mut SureDepot, ops: &[Op]) -> Result<Vec<u8>, NoMemory>
-    ensures { IfOk result (λ out. out.items ≡ transcript ops.now) }
+const CLIENT: Actor = Actor(0);
+
+const WORKER: WorkerId = WorkerId(0);
+
+/// A cluster on which lines were done, and what was printed of them.
+#[derive(Drop)]
+pub(crate) struct Finished {
+    pub(crate) cluster: Cluster<MemTicket>,
+    pub(crate) text: Vec<u8>,
+}
+
+/// Does the lines in order on a cluster of its own.
+pub(crate) fn play(alloc: Global, header: Header, ops: Vec<Op>) -> Result<Finished, NoMemory>
+    requires workers { 0 < header.workers }
+    requires ops { AllByRecursion IsOp ops.items }
+    ensures header { IfOk result (λ finished. finished.cluster.header ≡ header) }
+    ensures played { IfOk result (λ finished. PlaysOut header ops.items finished.cluster.events finished.text.items) }
 {
-    let mut calls: Vec<Call<Kept>> = Vec::new(alloc);
-    let mut out = Vec::new(alloc);
-    for op in ops {
-        let command = command_of(alloc, depot, op)?;
-        let reply = reply_to(&calls, &command);
-        print_line(alloc, depot, &calls, reply, &mut out)?;
-        calls.push(Call {
-            actor: Actor(0),
-            command,
-            reply,
-        })?;
+    let mut depot = SureDepot::new();
+    let mut cluster = Cluster::new(alloc, header)?;
+    let mut text = Vec::new(alloc);
+    let mut rest = ops;
+    rest.reverse();
+    'lines: while let Some(op) = rest.pop() {
+        let answer = do_line(alloc, &mut cluster, &mut depot, op)?;
+        transcript_line(&mut text, CLIENT.0, &Ok(answer), Form::Cat)?;
     }
-    Ok(out)
+    cluster.stands();
+    Ok(Finished { cluster, text })
 }
 
-// The command of a line, its text saved.
-fn command_of(alloc: Global, depot: &mut SureDepot, op: &Op) -> Result<Command<Kept>, NoMemory>
-    ensures { IfOk result (λ command. command ≡ command_of op.now) }
-{
-    Ok(match op {
-        Op::Put { path, text } => Command::Put {
-            path: path.clone()?,
-            ticket: Kept::save(alloc, depot, text)?,
-        },
-        Op::Cat { prio, path } => Command::Read {
-            path: path.clone()?,
-            prio: *prio,
-            form: Form::Cat,
-        },
-    })
-}
-
-// Appends the line of the call with this reply that comes after these calls.
-fn print_line(
+// Does a line.
+fn do_line(
     alloc: Global,
+    cluster: &mut Cluster<MemTicket>,
     depot: &mut SureDepot,
-    calls: &[Call<Kept>],
-    reply: Reply,
-    out: &mut Vec<u8>,
-) -> Result<(), NoMemory>
-    ensures { OnOk result (out.new.items ≡ out.old.items ++ line_of (reverse calls.now) reply) }
+    op: Op,
+) -> Result<Answer, NoMemory>
+    requires workers { 0 < cluster.old.header.workers }
+    requires op { IsOp op }
+    requires rest { IsAtRest (past_of cluster.old) client }
+    ensures ok { IfOk result (IsPiece cluster.old.events cluster.new.events op) }
+    ensures rest { IsAtRest (past_of cluster.new) client }
+    ensures header { cluster.new.header ≡ cluster.old.header }
 {
-    print_number(out, calls.len() as u64)?;
-    out.extend_from_slice(b" 0 ")?;
-    print_words(alloc, depot, calls, reply, out)?;
-    out.extend_from_slice(b"\n")?;
-    Ok(())
-}
-
-// Appends the words for a reply after these calls.
-fn print_words(
-    alloc: Global,
-    depot: &mut SureDepot,
-    calls: &[Call<Kept>],
-    reply: Reply,
-    out: &mut Vec<u8>,
-) -> Result<(), NoMemory>
-    ensures { OnOk result (out.new.items ≡ out.old.items ++ words (reverse calls.now) reply) }
-{
-    match reply {
-        Reply::Made(made) => {
-            out.extend_from_slice(b"made ")?;
-            print_number(out, u64::from(made.0))?;
+    match op {
+        Op::Put { path, text } => put(alloc, cluster, depot, CLIENT, &path, &text),
+        Op::Job {
+            core,
+            prio,
+            inputs,
+            outputs,
+        } => submit(alloc, cluster, CLIENT, core, prio, inputs, outputs),
+        Op::Cat { prio, path } => {
+            read(
+                alloc,
+                cluster,
+                depot,
+                CLIENT,
+                WORKER,
+                &path,
+                prio,
+                Form::Cat,
+            )
         }
-        Reply::Opened(file) => match ticket_of(calls, file.rec) {
-            Some(kept) => print_value(out, file, &kept.load(alloc, depot)?)?,
-            None => print_value(out, file, &[])?,
-        },
-        Reply::Exists => out.extend_from_slice(b"exists")?,
-        Reply::NoSuch => out.extend_from_slice(b"nosuch")?,
-        Reply::TooMany => out.extend_from_slice(b"toomany")?,
+        Op::Lose { worker } => lose(cluster, CLIENT, worker),
     }
-    Ok(())
 }

@@ -13,7 +13,7 @@ struct Case {
     output: &'static str,
 }
 
-const CASES: [Case; 16] = [
+const CASES: [Case; 20] = [
     Case {
         name: "a put and a read",
         input: "tachyon 1 workers 1 capacity 100 hot 3\n0 put /a \"hi\"\n0 cat 0 /a",
@@ -109,6 +109,30 @@ const CASES: [Case; 16] = [
         input: "tachyon 1 workers 1 capacity 100 hot 3\n0 put /a \"hi\" \n",
         status: 3,
         output: "script line 2 kind 3\n",
+    },
+    Case {
+        name: "a file is lost and made again",
+        input: "tachyon 1 workers 1 capacity 100 hot 3\n0 put /a \"hi\"\n0 job 3 10 in /a out /b run (job (cat (in 0) \"!\"))\n0 cat 0 /b\n0 lose 0\n0 cat 0 /b\n",
+        status: 0,
+        output: "0 0 made 0\n1 0 made 1\n2 0 file 1.0 3 \"hi!\"\n- 0 lose 0\n3 0 file 1.0 3 \"hi!\"\n",
+    },
+    Case {
+        name: "a refused job uses up no number",
+        input: "tachyon 1 workers 1 capacity 100 hot 3\n0 put /a \"x\"\n0 job 3 10 in /no out /b run (job (in 0))\n0 put /c \"y\"\n",
+        status: 0,
+        output: "0 0 made 0\n1 0 nosuch\n2 0 made 1\n",
+    },
+    Case {
+        name: "fuel that is just not enough, and just enough",
+        input: "tachyon 1 workers 1 capacity 100 hot 9\n0 put /a \"hi\"\n0 job 3 2 in /a out /b run (job (cat (in 0) \"!\"))\n0 job 3 3 in /a out /c run (job (cat (in 0) \"!\"))\n0 cat 0 /b\n0 cat 0 /c\n",
+        status: 0,
+        output: "0 0 made 0\n1 0 made 1\n2 0 made 2\n3 0 failed 1.0 1\n4 0 file 2.0 3 \"hi!\"\n",
+    },
+    Case {
+        name: "jobs of jobs, lost and made again in order",
+        input: "tachyon 1 workers 1 capacity 100 hot 9\n0 put /a \"x\"\n0 job 3 10 in /a out /b run (job (cat (in 0) \"1\"))\n0 job 3 10 in /b out /c run (job (cat (in 0) \"2\"))\n0 job 7 10 in /c out /d run (job (cat (in 0) \"\\n\"))\n0 cat 0 /d\n0 lose 0\n0 cat 0 /d\n",
+        status: 0,
+        output: "0 0 made 0\n1 0 made 1\n2 0 made 2\n3 0 made 3\n4 0 file 3.0 4 \"x12\\n\"\n- 0 lose 0\n5 0 file 3.0 4 \"x12\\n\"\n",
     },
 ];
 
