@@ -107,8 +107,8 @@ fn take<T: Ticket>(
     }
 }
 
-// The record of this number.
-fn record_at(records: &[Accepted], made: RecordId) -> Option<&Accepted>
+/// The record of this number.
+pub(crate) fn record_at(records: &[Accepted], made: RecordId) -> Option<&Accepted>
     ensures { option_map record_of (option_copied result) ≡ slice_get (records_in records.now) made.0 }
 {
     records.get(made.0 as usize)
