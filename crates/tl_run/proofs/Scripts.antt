@@ -3,7 +3,7 @@ use Rattle.std.proofs.Common.{◌≡◌, ℕ, ◌<◌, List, [], ◌∷◌, arit
 use Rattle.std.specs.List.{AllByRecursion}
 use Rattle.tl_model.specs.declared.header.Header.{Header}
 use Rattle.tl_script.specs.declared.script.Op.{Op}
-use Rattle.tl_script.specs.Script.{IsHeader, IsOp, IsScript, SayAll}
+use Rattle.tl_script.specs.Script.{IsOp, IsScript, SayAll}
 
 all-commands : (lines : List (List ℕ)) (ops : List Op) → SayAll lines ops → AllByRecursion IsOp ops
 all-commands [] [] say = tt

@@ -1,5 +1,5 @@
 -- What a run of a script leaves, by its status.
-use Rattle.std.specs.Prelude.{ℕ, ◌≡◌, ◌+◌, ◌≤◌, ◌⊎◌, String, List, [], ◌∷◌, ◌++◌, length, map, string_bytes, codes, decimal, Option, IfSome}
+use Rattle.std.specs.Prelude.{ℕ, ◌≡◌, ◌+◌, ◌≤◌, ◌⊎◌, String, List, [], ◌∷◌, ◌++◌, length, map, string_bytes, codes, decimal, Option, Some, None, IfSome}
 use Rattle.std.specs.Global.{Global}
 use Rattle.std.specs.Io.KnownBytes.{Appends}
 use Rattle.tl_io.specs.Counts.{Rises}
@@ -15,7 +15,7 @@ use Rattle.tl_run.specs.Status.{code_of}
 use Rattle.tl_script.specs.Lines.{lines_of}
 use Rattle.tl_script.specs.Script.{IsScript, IsRefused}
 use Rattle.tl_run.specs.Streams.{RisesBy, ReadsAll, HasMore, WritesFront}
-use Rattle.tl_client.specs.Pieces.{Events}
+use Rattle.tl_core.specs.State.{State}
 use Rattle.tl_run.specs.Plays.{PlaysOut}
 
 -- what is known of a source: the bytes left, where told, how many were given, and its faults
@@ -47,15 +47,18 @@ kind_number bad.Command = 3
 abbrev pub refusal_text : ℕ → BadLine → List ℕ
 refusal_text line kind = codes "script line " ++ (decimal line ++ (codes " kind " ++ (decimal (kind_number kind) ++ codes "\n")))
 
--- the input spells the script; its lines were done on an empty cluster of its header, and the text is what was printed of them
-pub record Plays (before after : Supply) (text : List ℕ) : Type 0 where
+-- a cluster that a run keeps, or none
+abbrev pub Kept : Type 0
+Kept = Option (State (List ℕ))
+
+-- the input spells a script; its lines were done on an empty cluster of its header, which is kept, and the text is what was
+-- printed of them
+pub record Plays (before after : Supply) (kept : State (List ℕ)) (text : List ℕ) : Type 0 where
   pub bytes : List ℕ
-  pub header : Header
   pub ops : List Op
   pub input : IsInput before after bytes
-  pub script : IsScript (lines_of bytes) header ops
-  pub journal : Events
-  pub played : PlaysOut header ops journal text
+  pub script : IsScript (lines_of bytes) kept.header ops
+  pub played : PlaysOut kept.header ops kept.events text
 
 -- the input spells no script, and the text names its first refused line
 pub record Refuses (before after : Supply) (text : List ℕ) : Type 0 where
@@ -77,15 +80,19 @@ pub record ReadsTooMuch (before after : Supply) (text : List ℕ) : Type 0 where
   pub count : RisesBy before.given after.given (input_limit + 1)
   pub printed : text ≡ codes "input too long\n"
 
--- a run may answer with this status and this text
-abbrev pub Answers : Supply → Supply → Status → List ℕ → Type 0
-Answers before after Done text = Plays before after text
-Answers before after BadScript text = Refuses before after text
-Answers before after ReadFault text = FailsToRead before after text
-Answers before after TooLong text = ReadsTooMuch before after text
-Answers before after BadWords text = ⊥
-Answers before after WriteFault text = ⊥
-Answers before after NoMemory text = text ≡ []
+-- what is kept with a status: nothing where memory ran out
+abbrev pub kept_with : Status → Kept → Kept
+kept_with NoMemory kept = None
+kept_with _ kept = kept
+
+-- a run may answer with this status and this text, and keep this
+abbrev pub Answers : Supply → Supply → Kept → Status → List ℕ → Type 0
+Answers before after (Some kept) Done text = Plays before after kept text
+Answers before after None BadScript text = Refuses before after text
+Answers before after None ReadFault text = FailsToRead before after text
+Answers before after None TooLong text = ReadsTooMuch before after text
+Answers before after None NoMemory text = text ≡ []
+Answers before after _ _ text = ⊥
 
 -- the text was written whole
 abbrev pub Wrote : Held → Held → List ℕ → Type 0
@@ -96,29 +103,29 @@ abbrev pub WroteFront : Held → Held → List ℕ → Type 0
 WroteFront sink sink' text = WritesFront sink.bytes sink'.bytes text
 
 -- a front of what some answer would have written
-pub record WroteFrontOfAnswer (before after : Supply) (sink sink' : Held) : Type 0 where
+pub record WroteFrontOfAnswer (before after : Supply) (kept : Kept) (sink sink' : Held) : Type 0 where
   pub status : Status
   pub text : List ℕ
-  pub answer : Answers before after status text
+  pub answer : Answers before after kept status text
   pub front : WroteFront sink sink' text
 
 -- what some answer of this status would write was written whole
-pub record WroteAnswer (before after : Supply) (sink sink' : Held) (status : Status) : Type 0 where
+pub record WroteAnswer (before after : Supply) (kept : Kept) (sink sink' : Held) (status : Status) : Type 0 where
   pub text : List ℕ
-  pub answer : Answers before after status text
+  pub answer : Answers before after kept status text
   pub whole : Wrote sink sink' text
 
--- what a run leaves with this status
-abbrev pub Ends : Supply → Supply → Held → Held → Status → Type 0
-Ends before after sink sink' WriteFault = Rises sink.faults sink'.faults × WroteFrontOfAnswer before after sink sink'
-Ends before after sink sink' NoMemory = WroteFrontOfAnswer before after sink sink'
-Ends before after sink sink' status = WroteAnswer before after sink sink' status
+-- what a run leaves with this status; what was kept is let go where memory ran out in writing
+abbrev pub Ends : Supply → Supply → Kept → Held → Held → Status → Type 0
+Ends before after kept sink sink' WriteFault = Rises sink.faults sink'.faults × WroteFrontOfAnswer before after kept sink sink'
+Ends before after kept sink sink' NoMemory = (kept ≡ None) × ((let_go : Kept) × WroteFrontOfAnswer before after let_go sink sink')
+Ends before after kept sink sink' status = WroteAnswer before after kept sink sink' status
 
 -- the status is one of a run, and the run left what it says
-pub record EndsWith (before after : Supply) (sink sink' : Held) (code : ℕ) : Type 0 where
+pub record EndsWith (before after : Supply) (kept : Kept) (sink sink' : Held) (code : ℕ) : Type 0 where
   pub status : Status
   pub code_is : code ≡ code_of status
-  pub ends : Ends before after sink sink' status
+  pub ends : Ends before after kept sink sink' status
 
 -- no such script stands in the input, where told
 abbrev pub IsNoScript : Supply → Type 0

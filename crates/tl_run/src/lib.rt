@@ -10,7 +10,7 @@ mod tests;
 mod words;
 mod writing;
 
-pub use alone::{Stop, alone_call};
+pub use alone::{Ended, Stop, alone_call};
 pub use reading::INPUT_LIMIT;
 pub use status::Status;
 pub use words::tachyon;

@@ -2,6 +2,7 @@ use super::*;
 use std::alloc::Global;
 use std::test::Fail;
 use tl_io::{MemSink, MemSource, SureDepot};
+use tl_report::summary;
 
 const HEADER: &str = "tachyon 1 workers 1 capacity 100 hot 3\n";
 
@@ -160,6 +161,51 @@ fn scripts(rt: HostRuntime) -> Result<(), Fail> {
         let (status, sink) = run(alloc, "alone", input, &[], &[])?;
         assert_eq!(rt; status, case.status, "{}", case.name);
         assert_eq!(rt; sink.bytes(), case.output.as_bytes(), "{}", case.name);
+    }
+    Ok(())
+}
+
+/// A script, and how many events of each kind its journal has.
+struct Counted {
+    input: &'static str,
+    summary: &'static str,
+}
+
+const COUNTED: [Counted; 5] = [
+    Counted {
+        input: "tachyon 1 workers 1 capacity 100 hot 3\n",
+        summary: "{\"calls\":0,\"claims\":0,\"collected\":0,\"done\":0,\"drops\":0,\"loads\":0,\"losses\":0,\"records\":0,\"saved\":0,\"served\":0}\n",
+    },
+    Counted {
+        input: "tachyon 1 workers 1 capacity 100 hot 3\n0 put /a \"hi\"\n0 job 3 10 in /a out /b run (job (cat (in 0) \"!\"))\n0 cat 0 /b\n0 lose 0\n0 cat 0 /b\n",
+        summary: "{\"calls\":4,\"claims\":2,\"collected\":0,\"done\":2,\"drops\":0,\"loads\":0,\"losses\":1,\"records\":2,\"saved\":1,\"served\":2}\n",
+    },
+    Counted {
+        input: "tachyon 1 workers 1 capacity 100 hot 3\n0 put /a \"one\"\n0 put /a \"two\"\n0 cat 0 /a\n",
+        summary: "{\"calls\":3,\"claims\":0,\"collected\":0,\"done\":0,\"drops\":0,\"loads\":1,\"losses\":0,\"records\":1,\"saved\":1,\"served\":1}\n",
+    },
+    Counted {
+        input: "tachyon 1 workers 1 capacity 100 hot 3\n0 put /a \"x\"\n0 job 3 10 in /no out /b run (job (in 0))\n0 put /c \"y\"\n",
+        summary: "{\"calls\":3,\"claims\":0,\"collected\":0,\"done\":0,\"drops\":0,\"loads\":0,\"losses\":0,\"records\":2,\"saved\":2,\"served\":0}\n",
+    },
+    Counted {
+        input: "tachyon 1 workers 1 capacity 100 hot 9\n0 put /a \"hi\"\n0 job 3 2 in /a out /b run (job (cat (in 0) \"!\"))\n0 job 3 3 in /a out /c run (job (cat (in 0) \"!\"))\n0 cat 0 /b\n0 cat 0 /c\n",
+        summary: "{\"calls\":5,\"claims\":2,\"collected\":0,\"done\":2,\"drops\":0,\"loads\":0,\"losses\":0,\"records\":3,\"saved\":1,\"served\":2}\n",
+    },
+];
+
+#[test]
+fn journals(rt: HostRuntime) -> Result<(), Fail> {
+    let alloc = rt.alloc();
+    for counted in &COUNTED {
+        let mut source = MemSource::new(counted.input.as_bytes().to_vec(alloc)?, Vec::new(alloc));
+        let mut sink = MemSink::new(alloc, Vec::new(alloc));
+        let mut depots = vec![in alloc; SureDepot::new(); 16]?;
+        let ended = alone_call(alloc, false, &mut source, &mut sink, &mut depots);
+        let kept = ended.kept.ok_or("nothing is kept")?;
+        let mut text = Vec::new(alloc);
+        summary(&mut text, kept.journal())?;
+        assert_eq!(rt; text.as_slice(), counted.summary.as_bytes());
     }
     Ok(())
 }

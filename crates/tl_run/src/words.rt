@@ -5,7 +5,7 @@ ghost use Rattle.tl_model.specs.declared.header.Header.{Header};
 ghost use Rattle.tl_script.specs.declared.script.Op.{Op};
 ghost use Rattle.tl_script.specs.Lines.{lines_of};
 ghost use Rattle.tl_script.specs.Script.{IsScript};
-ghost use Rattle.tl_run.specs.Alone.{EndsWith, IsAlone, RefusesWords};
+ghost use Rattle.tl_run.specs.Alone.{EndsWith, IsAlone, Kept, RefusesWords};
 
 use crate::alone::{alone_call, finish};
 use crate::status::Status;
@@ -23,9 +23,10 @@ pub fn tachyon<I: Source, O: Sink, D: Depot>(
 ) -> u8
     requires { vec_len depots.old ≡ 16 }
 
-    ensures alone { IsAlone words.now → EndsWith
+    ensures alone { IsAlone words.now → (kept : Kept) × EndsWith
         (record { left = I.left input.old; given = I.given input.old; faults = I.faults input.old })
         (record { left = I.left input.new; given = I.given input.new; faults = I.faults input.new })
+        kept
         (record { bytes = O.held output.old; faults = O.faults output.old })
         (record { bytes = O.held output.new; faults = O.faults output.new })
         result }
@@ -43,7 +44,7 @@ pub fn tachyon<I: Source, O: Sink, D: Depot>(
     ensures depots { depots.new ≡ depots.old }
 {
     if is_alone(words) {
-        alone_call(alloc, false, input, output, depots)
+        alone_call(alloc, false, input, output, depots).status
     } else {
         finish(output, Status::BadWords, b"words\n").code()
     }

@@ -2,4 +2,4 @@ use Rattle.tl_run.proofs.Endings.{accepts}
 use Rattle.tl_run.proofs.alone.alone_call.Goals as goal
 
 pub returns-clause-accepted : goal.returns-clause-accepted
-returns-clause-accepted g c = accepts _ _ _ _ c.code.result (record { status = c.run.result; code_is = c.code.ensures; ends = c.run.ensures })
+returns-clause-accepted g c = accepts _ _ c.run-status.result.kept _ _ c.code.result (record { status = c.run-status.result.status; code_is = c.code.ensures; ends = c.run-status.ensures })
