@@ -27,3 +27,23 @@ eviction digest =
 
 abbrev pub eviction_past : Past
 eviction_past = without_tickets (eviction itself)
+
+-- the same where each of the two files of four bytes is on a worker of its own, of three
+abbrev pub both_over : DigestOf → Told
+both_over digest =
+    evict 0 0 (file_of 2 0)
+    ∷ done 0 0 2
+    ∷ evict 0 1 (file_of 1 0)
+    ∷ evict 0 0 (file_of 0 0)
+    ∷ claim 0 0 2
+    ∷ done 0 1 1
+    ∷ claim 0 1 1
+    ∷ done 0 0 0
+    ∷ claim 0 0 0
+    ∷ call 0 (made 2) (job 3 both_inputs (at (codes "x") ∷ at (codes "y") ∷ []) (at (codes "z") ∷ []))
+    ∷ call 0 (made 1) (job 3 (only_text (codes "bbbb")) [] (at (codes "y") ∷ []))
+    ∷ call 0 (made 0) (job 3 (only_text (codes "aaaa")) [] (at (codes "x") ∷ []))
+    ∷ []
+
+abbrev pub both_over_past : Past
+both_over_past = without_tickets (both_over itself)

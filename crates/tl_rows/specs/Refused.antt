@@ -2,7 +2,7 @@
 use Rattle.std.specs.Prelude.{[], ◌∷◌, codes}
 use Rattle.tl_model.specs.declared.reply.Reply.TheVariants.{Fine}
 use Rattle.tl_model.specs.Past.{Told}
-use Rattle.tl_rows.specs.Words.{DigestOf, at, back, call, cat, claim, collect, delete, done, file_of, free, job, load, lose, made, opened, put, save, saved, shut, then_text, unsave}
+use Rattle.tl_rows.specs.Words.{DigestOf, at, back, call, cat, claim, collect, delete, done, file_of, free, job, load, lose, made, opened, put, save, saved, served, shut, then_text, unsave}
 
 -- a saved put, and two jobs that read it
 abbrev pub start : DigestOf → Told
@@ -56,6 +56,28 @@ abbrev pub loaded : DigestOf → Told
 loaded digest =
     load 0 0 (file_of 0 0)
     ∷ waiting digest
+
+-- it is loaded beside both files, and served
+abbrev pub loaded_over : DigestOf → Told
+loaded_over digest =
+    served digest 0 (file_of 0 0) (codes "x")
+    ∷ load 0 0 (file_of 0 0)
+    ∷ call 0 (opened 0 0) (cat 0 (codes "a"))
+    ∷ both_done digest
+
+-- both are made again, the second first
+abbrev pub second_again_first : DigestOf → Told
+second_again_first digest =
+    served digest 0 (file_of 1 0) (codes "x1")
+    ∷ done 0 0 1
+    ∷ claim 0 0 1
+    ∷ call 0 (opened 1 0) (cat 0 (codes "b"))
+    ∷ served digest 0 (file_of 2 0) (codes "x2")
+    ∷ done 0 0 2
+    ∷ claim 0 0 2
+    ∷ call 0 (opened 2 0) (cat 0 (codes "c"))
+    ∷ lose 0 0
+    ∷ both_done digest
 
 -- the file of the first is to leave its memory
 abbrev pub freeing : DigestOf → Told

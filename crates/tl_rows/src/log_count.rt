@@ -24,6 +24,8 @@ pub fn log_count()
 pub fn log_report()
     ensures edge { edge (header 2 4096 3) log_report_past ≡ file_of 15 0 ∷ [] }
     ensures more_read { edge (header 2 4096 2) log_report_past ≡ file_of 15 0 ∷ file_of 4 0 ∷ [] }
+    ensures all_read { edge (header 2 4096 1) log_report_past
+        ≡ file_of 15 0 ∷ file_of 4 0 ∷ file_of 5 0 ∷ file_of 6 0 ∷ file_of 7 0 ∷ file_of 8 0 ∷ file_of 9 0 ∷ file_of 10 0 ∷ file_of 11 0 ∷ file_of 12 0 ∷ file_of 13 0 ∷ file_of 14 0 ∷ [] }
     ensures hottest { edge (header 2 4096 2) (drop 1 log_report_past) ≡ file_of 15 0 ∷ file_of 4 0 ∷ [] }
     ensures reads { reads log_report_past (file_of 4 0) ≡ 2 }
     ensures reads_of_report { reads log_report_past (file_of 15 0) ≡ 1 }

@@ -22,6 +22,7 @@ pub fn refused_drop()
     ensures other_actor { fault_of lawful_judge (header 2 100 9) (evict 1 0 (file_of 1 0) ∷ both_done itself) ≡ Some (8, 9) }
     ensures nobody_before { fault_of lawful_judge (header 2 100 9) (evict 0 0 (file_of 1 0) ∷ []) ≡ Some (0, 9) }
     ensures other_worker { fault_of lawful_judge (header 2 100 9) (evict 0 1 (file_of 1 0) ∷ both_done itself) ≡ Some (8, 9) }
+    ensures no_output { fault_of lawful_judge (header 2 100 9) (evict 0 0 (file_of 1 1) ∷ both_done itself) ≡ Some (8, 9) }
     ensures pinned { fault_of lawful_judge (header 2 100 9) (evict 0 0 (file_of 1 0) ∷ call 0 Fine (pin (codes "b")) ∷ both_done itself) ≡ Some (9, 9) }
     ensures wanted { fault_of lawful_judge (header 2 100 9) (evict 0 0 (file_of 1 0) ∷ reading itself) ≡ Some (9, 9) }
 {}

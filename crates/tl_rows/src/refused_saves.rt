@@ -2,8 +2,9 @@
 
 ghost use Rattle.std.specs.Prelude.{◌≡◌, [], ◌∷◌, None, Some, codes};
 ghost use Rattle.tl_model.specs.Rules.{fault_of, lawful_judge, legal_judge};
-ghost use Rattle.tl_rows.specs.Refused.{both_done, one_done, reading, saving, start};
-ghost use Rattle.tl_rows.specs.Words.{call, claim, file_of, hashed, header, itself, made, put, save, saved, saved_of_length, unsave};
+ghost use Rattle.tl_model.specs.declared.reply.Reply.TheVariants.{Fine};
+ghost use Rattle.tl_rows.specs.Refused.{both_done, one_done, reading, saving, second_again_first, start};
+ghost use Rattle.tl_rows.specs.Words.{call, claim, delete, file_of, hashed, header, itself, made, put, save, saved, saved_of_length, unsave};
 
 /// Each clause breaks one condition of a save.
 #[tactic(auto, unfolding(crate::specs::Computing::computing))]
@@ -11,6 +12,10 @@ pub fn refused_save()
     ensures permitted { fault_of lawful_judge (header 2 100 9) (save 0 (file_of 1 0) ∷ both_done itself) ≡ None }
     ensures beside_another { fault_of lawful_judge (header 2 100 9) (save 1 (file_of 2 0) ∷ saving itself) ≡ None }
     ensures not_first { fault_of lawful_judge (header 2 100 9) (save 0 (file_of 2 0) ∷ both_done itself) ≡ Some (8, 11) }
+    ensures last_done_sooner { fault_of lawful_judge (header 2 100 9) (save 0 (file_of 2 0) ∷ second_again_first itself) ≡ None }
+    ensures last_done_later { fault_of lawful_judge (header 2 100 9) (save 0 (file_of 1 0) ∷ second_again_first itself) ≡ Some (17, 11) }
+    ensures unnamed { fault_of lawful_judge (header 2 100 9) (save 0 (file_of 1 0) ∷ call 0 Fine (delete (codes "b")) ∷ both_done itself) ≡ Some (9, 11) }
+    ensures saved { fault_of lawful_judge (header 2 100 9) (save 0 (file_of 1 0) ∷ saved itself 0 (file_of 1 0) (codes "x1") ∷ saving itself) ≡ Some (10, 11) }
     ensures none_to_save { fault_of lawful_judge (header 2 100 9) (save 0 (file_of 1 0) ∷ start itself) ≡ Some (4, 11) }
     ensures open_read { fault_of lawful_judge (header 2 100 9) (save 0 (file_of 1 0) ∷ reading itself) ≡ Some (9, 11) }
     ensures open_claim { fault_of lawful_judge (header 2 100 9) (save 0 (file_of 1 0) ∷ claim 0 0 2 ∷ one_done itself) ≡ Some (7, 11) }

@@ -4,7 +4,7 @@ ghost use Rattle.std.specs.Prelude.{◌≡◌, [], ◌∷◌, None, Some, drop, 
 ghost use Rattle.tl_model.specs.Checkpoints.{edge};
 ghost use Rattle.tl_model.specs.Needs.{garbage, is_needed};
 ghost use Rattle.tl_model.specs.Plan.{is_task};
-ghost use Rattle.tl_model.specs.Residency.{place};
+ghost use Rattle.tl_model.specs.Residency.{place, recency};
 ghost use Rattle.tl_model.specs.Rules.{ToServe, is_lawful, is_legal, lawful_judge, owed};
 ghost use Rattle.tl_rows.specs.SavedEnd.{saved_end, saved_end_past};
 ghost use Rattle.tl_rows.specs.Words.{file_of, hashed, header, id, itself, worker};
@@ -23,6 +23,9 @@ pub fn saved_end()
     ensures none { garbage (drop 4 saved_end_past) ≡ None }
     ensures lost { place (drop 2 saved_end_past) (file_of 3 0) ≡ None }
     ensures loaded { place saved_end_past (file_of 3 0) ≡ Some (worker 0) }
+    ensures recency_of_done { recency (drop 2 saved_end_past) (file_of 3 0) ≡ 10 }
+    ensures recency_of_load { recency (drop 1 saved_end_past) (file_of 3 0) ≡ 21 }
+    ensures recency_of_no_resident { recency saved_end_past (file_of 0 0) ≡ 0 }
     ensures no_task { is_task (drop 2 saved_end_past) (id 3) ≡ false }
     ensures owes_served { owed lawful_judge (drop 1 (saved_end itself)) ≡ ToServe (record { 0 = 0 }) (file_of 3 0) }
 {}

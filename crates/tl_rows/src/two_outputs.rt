@@ -1,8 +1,9 @@
 //! A job that runs again brings only those of its outputs that are nowhere.
 
-ghost use Rattle.std.specs.Prelude.{◌≡◌, None, Some, drop, true};
+ghost use Rattle.std.specs.Prelude.{◌≡◌, [], ◌∷◌, None, Some, drop, true};
+ghost use Rattle.tl_model.specs.Checkpoints.{edge};
 ghost use Rattle.tl_model.specs.Plan.{next};
-ghost use Rattle.tl_model.specs.Residency.{place};
+ghost use Rattle.tl_model.specs.Residency.{place, recency};
 ghost use Rattle.tl_model.specs.Rules.{ToFree, is_lawful, is_legal, lawful_judge, owed};
 ghost use Rattle.tl_rows.specs.TwoOutputs.{two_outputs, two_outputs_past};
 ghost use Rattle.tl_rows.specs.Words.{file_of, hashed, header, id, itself, worker};
@@ -22,6 +23,9 @@ pub fn two_outputs()
     ensures other_lost { place (drop 6 two_outputs_past) (file_of 0 1) ≡ None }
     ensures at_end { place two_outputs_past (file_of 0 0) ≡ Some (worker 1) }
     ensures other_at_end { place two_outputs_past (file_of 0 1) ≡ Some (worker 1) }
+    ensures edge { edge (header 2 100 9) (drop 13 two_outputs_past) ≡ file_of 0 0 ∷ file_of 0 1 ∷ [] }
+    ensures recency_again { recency (drop 8 two_outputs_past) (file_of 0 0) ≡ 7 }
+    ensures other_recency_stays { recency (drop 8 two_outputs_past) (file_of 0 1) ≡ 2 }
     ensures next_for_other { next (drop 3 two_outputs_past) ≡ Some (id 0) }
     ensures owes_free { owed lawful_judge (drop 12 (two_outputs itself)) ≡ ToFree (record { 0 = 0 }) (file_of 0 0) }
 {}
