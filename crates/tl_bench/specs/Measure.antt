@@ -1,9 +1,11 @@
 -- What a measurement needs in order to run.
 use Rattle.std.specs.Prelude.{◌≤◌}
 use Rattle.tl_bench.specs.declared.measure.Measure.{Measure}
-use Rattle.tl_bench.specs.declared.measure.Measure.TheVariants.{Script, Turns}
+use Rattle.tl_bench.specs.declared.measure.Measure.TheVariants.{Script, Chain, Small, Turns}
 
 -- one turn has at most 64 seats
 abbrev pub IsRunnable : Measure → Type 0
 IsRunnable (Script lines) = Unit {0}
+IsRunnable (Chain jobs) = Unit {0}
+IsRunnable Small = Unit {0}
 IsRunnable (Turns seats turns) = seats ≤ 64

@@ -2,7 +2,9 @@
 //! error.
 #![tactic(auto)]
 
+mod alone;
 mod book;
+mod chain;
 mod crowd;
 mod measure;
 mod pace;
@@ -22,6 +24,8 @@ fn main(rt: HostRuntime) -> io::Result<ExitCode> {
     let words: Vec<String> = env::args(&rt)?.skip(1).collect(rt.alloc())?;
     match Measure::of(&words) {
         Some(Measure::Script { lines }) => script::measure(&rt, rt.alloc(), lines)?,
+        Some(Measure::Chain { jobs }) => chain::measure(&rt, rt.alloc(), jobs)?,
+        Some(Measure::Small) => small(&rt)?,
         Some(Measure::Turns { seats, turns }) => turns::measure(&rt, rt.alloc(), seats, turns)?,
         None => {
             println!(rt; "words")?;
@@ -29,4 +33,11 @@ fn main(rt: HostRuntime) -> io::Result<ExitCode> {
         }
     }
     Ok(ExitCode::SUCCESS)
+}
+
+// Each measurement that starts no threads, at a small size.
+fn small(rt: &HostRuntime) -> io::Result<()> {
+    let alloc = rt.alloc();
+    script::measure(rt, alloc, 10)?;
+    chain::measure(rt, alloc, 3)
 }

@@ -10,12 +10,17 @@ const SEATS: u8 = 64;
 pub enum Measure {
     /// A script of this many lines after its header.
     Script { lines: u32 },
+    /// A chain of this many jobs, a loss and a read.
+    Chain { jobs: u32 },
+    /// Each measurement that starts no threads, at a small size.
+    Small,
     /// This many turns by each of so many seats.
     Turns { seats: u8, turns: u32 },
 }
 
 impl Measure {
-    /// The measurement that the words name: `script LINES`, or `turns SEATS TURNS` with 1 to 64 seats.
+    /// The measurement that the words name: `script LINES`, `chain JOBS`, `small`, or `turns SEATS TURNS` with 1 to
+    /// 64 seats.
     pub fn of(words: &[String]) -> Option<Measure>
         ensures { IfSome result IsRunnable }
     {
@@ -24,6 +29,11 @@ impl Measure {
                 let lines = lines.parse().ok()?;
                 Some(Measure::Script { lines })
             }
+            [word, jobs] if word.as_str() == "chain" => {
+                let jobs = jobs.parse().ok()?;
+                Some(Measure::Chain { jobs })
+            }
+            [word] if word.as_str() == "small" => Some(Measure::Small),
             [word, seats, turns] if word.as_str() == "turns" => {
                 let seats = seats.parse::<u8>().ok()?;
                 let turns = turns.parse().ok()?;

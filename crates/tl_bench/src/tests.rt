@@ -4,7 +4,7 @@ use std::alloc::{AllocError, Global};
 use std::test::Fail;
 
 /// Words, and the measurement that they name.
-const CASES: [(&str, Option<Measure>); 9] = [
+const CASES: [(&str, Option<Measure>); 11] = [
     ("script 10", Some(Measure::Script { lines: 10 })),
     (
         "turns 8 1000",
@@ -20,6 +20,8 @@ const CASES: [(&str, Option<Measure>); 9] = [
             turns: 0,
         }),
     ),
+    ("chain 200", Some(Measure::Chain { jobs: 200 })),
+    ("small", Some(Measure::Small)),
     ("", None),
     ("script", None),
     ("script 10 10", None),
