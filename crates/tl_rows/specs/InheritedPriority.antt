@@ -42,8 +42,31 @@ waiting_reads digest =
     ∷ call 0 (made 0) (job 0 (only_text (codes "s")) [] (at (codes "s") ∷ []))
     ∷ []
 
+-- a read of a lost file, and a job of greater priority that has it as input and is running, and then is done and read
+abbrev pub waits_no_more : DigestOf → Told
+waits_no_more digest =
+    served digest 0 (file_of 2 0) (codes "x12")
+    ∷ served digest 1 (file_of 1 0) (codes "x1")
+    ∷ done 1 0 1
+    ∷ claim 1 0 1
+    ∷ call 0 (opened 2 0) (cat 7 (codes "c"))
+    ∷ done 0 1 2
+    ∷ call 1 (opened 1 0) (cat 1 (codes "b"))
+    ∷ lose 1 0
+    ∷ claim 0 1 2
+    ∷ done 0 0 1
+    ∷ claim 0 0 1
+    ∷ call 0 (made 2) (job 7 (then_text (codes "2")) (at (codes "b") ∷ []) (at (codes "c") ∷ []))
+    ∷ call 0 (made 1) (job 3 (then_text (codes "1")) (at (codes "a") ∷ []) (at (codes "b") ∷ []))
+    ∷ saved digest 0 (file_of 0 0) (codes "x")
+    ∷ call 0 (made 0) (put digest (codes "a") (codes "x"))
+    ∷ []
+
 abbrev pub waiting_job_past : Past
 waiting_job_past = without_tickets (waiting_job itself)
 
 abbrev pub waiting_reads_past : Past
 waiting_reads_past = without_tickets (waiting_reads itself)
+
+abbrev pub waits_no_more_past : Past
+waits_no_more_past = without_tickets (waits_no_more itself)

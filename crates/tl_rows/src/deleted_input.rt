@@ -2,7 +2,7 @@
 
 ghost use Rattle.std.specs.Prelude.{◌≡◌, None, Some, drop, false, true};
 ghost use Rattle.tl_model.specs.History.{is_named};
-ghost use Rattle.tl_model.specs.Needs.{garbage, is_needed};
+ghost use Rattle.tl_model.specs.Needs.{garbage, is_needed, is_reachable, is_root};
 ghost use Rattle.tl_model.specs.Residency.{is_kept};
 ghost use Rattle.tl_model.specs.Rules.{is_lawful, is_legal};
 ghost use Rattle.tl_rows.specs.DeletedInput.{deleted_input, deleted_input_past};
@@ -20,5 +20,8 @@ pub fn deleted_input()
     ensures not_needed { is_needed (drop 10 deleted_input_past) (id 0) ≡ false }
     ensures needed_by_its_task { is_needed (drop 17 deleted_input_past) (id 1) ≡ true }
     ensures kept { is_kept (drop 10 deleted_input_past) (id 0) ≡ true }
+    ensures root_of_tasks { is_root (drop 7 deleted_input_past) (file_of 2 0) ≡ true }
+    ensures no_root { is_root (drop 8 deleted_input_past) (file_of 2 0) ≡ false }
+    ensures reachable { is_reachable (drop 8 deleted_input_past) (file_of 2 0) ≡ true }
     ensures not_kept { is_kept (drop 9 deleted_input_past) (id 0) ≡ false }
 {}

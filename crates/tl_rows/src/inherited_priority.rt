@@ -4,7 +4,7 @@ ghost use Rattle.std.specs.Prelude.{◌≡◌, None, Some, drop, false, true};
 ghost use Rattle.tl_model.specs.Actors.{open_read};
 ghost use Rattle.tl_model.specs.Plan.{is_ready, next, prio};
 ghost use Rattle.tl_model.specs.Rules.{is_lawful, is_legal};
-ghost use Rattle.tl_rows.specs.InheritedPriority.{waiting_job, waiting_job_past, waiting_reads, waiting_reads_past};
+ghost use Rattle.tl_rows.specs.InheritedPriority.{waiting_job, waiting_job_past, waiting_reads, waiting_reads_past, waits_no_more, waits_no_more_past};
 ghost use Rattle.tl_rows.specs.Words.{file_of, hashed, header, id, itself};
 
 /// A job of priority 1 goes before one of 2, since one of 7 waits for it.
@@ -17,6 +17,7 @@ pub fn waiting_job()
     ensures waiting { prio (drop 6 waiting_job_past) (id 3) ≡ 7 }
     ensures not_ready { is_ready (drop 6 waiting_job_past) (id 3) ≡ false }
     ensures first { next (drop 6 waiting_job_past) ≡ Some (id 2) }
+    ensures made { prio (drop 4 waiting_job_past) (id 2) ≡ 0 }
     ensures second { next (drop 4 waiting_job_past) ≡ Some (id 3) }
     ensures third { next (drop 2 waiting_job_past) ≡ Some (id 1) }
     ensures done { prio waiting_job_past (id 3) ≡ 0 }
@@ -35,4 +36,15 @@ pub fn waiting_reads()
     ensures third { next (drop 3 waiting_reads_past) ≡ Some (id 1) }
     ensures read { open_read (drop 8 waiting_reads_past) (record { 0 = 1 }) ≡ Some (record { file = file_of 2 0; prio = 7 }) }
     ensures read_closed { open_read (drop 3 waiting_reads_past) (record { 0 = 1 }) ≡ None }
+{}
+
+/// A job that is running or done passes no priority on, though an input of it was lost.
+#[tactic(auto, unfolding(crate::specs::Computing::computing))]
+pub fn waits_no_more()
+    ensures lawful { is_lawful (header 2 100 9) (waits_no_more itself) ≡ true }
+    ensures legal { is_legal (header 2 100 9) (waits_no_more hashed) ≡ true }
+    ensures before { prio (drop 11 waits_no_more_past) (id 1) ≡ 7 }
+    ensures while_running { prio (drop 6 waits_no_more_past) (id 1) ≡ 1 }
+    ensures when_done { prio (drop 4 waits_no_more_past) (id 1) ≡ 1 }
+    ensures next { next (drop 4 waits_no_more_past) ≡ Some (id 1) }
 {}

@@ -2,7 +2,7 @@
 
 ghost use Rattle.std.specs.Prelude.{◌≡◌, [], ◌∷◌, None, Some, drop, false, true};
 ghost use Rattle.tl_model.specs.Checkpoints.{edge};
-ghost use Rattle.tl_model.specs.Needs.{garbage, is_needed};
+ghost use Rattle.tl_model.specs.Needs.{garbage, is_needed, is_reachable};
 ghost use Rattle.tl_model.specs.Plan.{is_task};
 ghost use Rattle.tl_model.specs.Residency.{place, recency};
 ghost use Rattle.tl_model.specs.Rules.{ToServe, is_lawful, is_legal, lawful_judge, owed};
@@ -26,6 +26,8 @@ pub fn saved_end()
     ensures recency_of_done { recency (drop 2 saved_end_past) (file_of 3 0) ≡ 10 }
     ensures recency_of_load { recency (drop 1 saved_end_past) (file_of 3 0) ≡ 21 }
     ensures recency_of_no_resident { recency saved_end_past (file_of 0 0) ≡ 0 }
+    ensures reachable { is_reachable (drop 2 saved_end_past) (file_of 3 0) ≡ true }
+    ensures not_reachable { is_reachable (drop 2 saved_end_past) (file_of 2 0) ≡ false }
     ensures no_task { is_task (drop 2 saved_end_past) (id 3) ≡ false }
     ensures owes_served { owed lawful_judge (drop 1 (saved_end itself)) ≡ ToServe (record { 0 = 0 }) (file_of 3 0) }
 {}
