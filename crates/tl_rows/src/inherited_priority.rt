@@ -32,6 +32,7 @@ pub fn waiting_reads()
     ensures low { prio (drop 8 waiting_reads_past) (id 1) ≡ 1 }
     ensures high { prio (drop 8 waiting_reads_past) (id 2) ≡ 7 }
     ensures first { next (drop 8 waiting_reads_past) ≡ Some (id 0) }
+    ensures both_ready { is_ready (drop 6 waiting_reads_past) (id 1) ≡ true }
     ensures second { next (drop 6 waiting_reads_past) ≡ Some (id 2) }
     ensures third { next (drop 3 waiting_reads_past) ≡ Some (id 1) }
     ensures read { open_read (drop 8 waiting_reads_past) (record { 0 = 1 }) ≡ Some (record { file = file_of 2 0; prio = 7 }) }

@@ -15,6 +15,7 @@ mod refused_owing;
 mod refused_reads;
 mod refused_saves;
 mod rerun;
+mod roots;
 mod saved_ancestor;
 mod saved_end;
 mod two_outputs;

@@ -4,13 +4,14 @@ ghost use Rattle.std.specs.Prelude.{◌≡◌, [], ◌∷◌, None, Some, codes}
 ghost use Rattle.tl_model.specs.Rules.{fault_of, lawful_judge, legal_judge};
 ghost use Rattle.tl_model.specs.declared.reply.Reply.TheVariants.{Fine};
 ghost use Rattle.tl_rows.specs.Refused.{both_done, freeing, one_done, reading};
-ghost use Rattle.tl_rows.specs.Words.{call, evict, file_of, free, freed, hashed, header, itself, pin};
+ghost use Rattle.tl_rows.specs.Words.{call, delete, evict, file_of, free, freed, hashed, header, itself, pin};
 
 /// Each clause breaks one condition of a free.
 #[tactic(auto, unfolding(crate::specs::Computing::computing))]
 pub fn refused_free()
     ensures permitted { fault_of lawful_judge (header 2 100 9) (freed 0 (file_of 1 0) ∷ freeing itself) ≡ None }
     ensures no_call { fault_of lawful_judge (header 2 100 9) (freed 0 (file_of 1 0) ∷ both_done itself) ≡ Some (8, 8) }
+    ensures other_call { fault_of lawful_judge (header 2 100 9) (freed 0 (file_of 1 0) ∷ call 0 Fine (delete (codes "c")) ∷ both_done itself) ≡ Some (9, 8) }
     ensures not_resident { fault_of lawful_judge (header 2 100 9) (freed 0 (file_of 2 0) ∷ call 0 Fine (free (codes "c")) ∷ one_done itself) ≡ Some (7, 8) }
     ensures other_file { fault_of lawful_judge (header 2 100 9) (freed 0 (file_of 1 0) ∷ call 0 Fine (free (codes "c")) ∷ one_done itself) ≡ Some (7, 8) }
 {}

@@ -30,6 +30,7 @@ pub fn refused_saved()
     ensures no_save { fault_of lawful_judge (header 2 100 9) (saved itself 0 (file_of 1 0) (codes "x1") ∷ both_done itself) ≡ Some (8, 12) }
     ensures other_actor { fault_of lawful_judge (header 2 100 9) (saved itself 1 (file_of 1 0) (codes "x1") ∷ saving itself) ≡ Some (9, 12) }
     ensures other_file { fault_of lawful_judge (header 2 100 9) (saved itself 0 (file_of 2 0) (codes "x2") ∷ saving itself) ≡ Some (9, 12) }
+    ensures nothing_before { fault_of lawful_judge (header 2 100 9) (saved itself 0 (file_of 0 0) (codes "x") ∷ []) ≡ Some (0, 12) }
     ensures again { fault_of lawful_judge (header 2 100 9) (saved itself 0 (file_of 0 0) (codes "x") ∷ start itself) ≡ Some (4, 12) }
     ensures wrong_length_of_put { fault_of lawful_judge (header 2 100 9) (saved_of_length 2 itself 0 (file_of 0 0) (codes "x") ∷ call 0 (made 0) (put itself (codes "a") (codes "x")) ∷ []) ≡ Some (1, 12) }
     ensures wrong_digest_of_put { fault_of lawful_judge (header 2 100 9) (saved itself 0 (file_of 0 0) (codes "y") ∷ call 0 (made 0) (put itself (codes "a") (codes "x")) ∷ []) ≡ Some (1, 12) }
