@@ -19,3 +19,4 @@ mod roots;
 mod saved_ancestor;
 mod saved_end;
 mod two_outputs;
+mod unlawful;

@@ -5,10 +5,11 @@ ghost use Rattle.tl_model.specs.Needs.{is_needed, is_reachable, is_root};
 ghost use Rattle.tl_model.specs.Past.{without_tickets};
 ghost use Rattle.tl_model.specs.Plan.{is_task};
 ghost use Rattle.tl_model.specs.declared.reply.Reply.TheVariants.{Fine};
+ghost use Rattle.tl_rows.specs.Eviction.{eviction, eviction_past};
 ghost use Rattle.tl_rows.specs.Refused.{both_done, reading, running_only};
 ghost use Rattle.tl_rows.specs.Rerun.{rerun_past};
 ghost use Rattle.tl_rows.specs.SavedEnd.{saved_end_past};
-ghost use Rattle.tl_rows.specs.Words.{call, delete, file_of, id, itself};
+ghost use Rattle.tl_rows.specs.Words.{call, collect, delete, file_of, id, itself};
 
 /// Each clause has one reason for a file to be a root, or none.
 #[tactic(auto, unfolding(crate::specs::Computing::computing))]
@@ -28,6 +29,8 @@ pub fn reachable()
     ensures saved_put { is_reachable (drop 10 rerun_past) (file_of 0 0) ≡ true }
     ensures lost { is_reachable (drop 4 rerun_past) (file_of 1 0) ≡ true }
     ensures inputs_gone { is_reachable (drop 6 saved_end_past) (file_of 2 0) ≡ false }
+    ensures no_inputs { is_reachable eviction_past (file_of 0 0) ≡ true }
+    ensures one_input_gone { is_reachable (without_tickets (collect 0 1 ∷ call 0 Fine (delete (codes "z")) ∷ call 0 Fine (delete (codes "y")) ∷ eviction itself)) (file_of 2 0) ≡ false }
     ensures no_task { is_task rerun_past (id 9) ≡ false }
     ensures not_needed { is_needed rerun_past (id 9) ≡ false }
 {}
