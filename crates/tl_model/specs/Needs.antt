@@ -3,7 +3,7 @@ use Rattle.std.specs.Prelude.{Bool, false, ◌&&◌, ◌||◌, not, filter, Opti
 use Rattle.std.specs.List.{list_any, list_all}
 use Rattle.tl_types.specs.declared.file_id.FileId.{FileId}
 use Rattle.tl_types.specs.declared.record_id.RecordId.{RecordId}
-use Rattle.tl_types.specs.Same.{record_same}
+use Rattle.tl_types.specs.Same.{file_same}
 use Rattle.tl_model.specs.declared.record.Record.{Record}
 use Rattle.tl_model.specs.Past.{Past}
 use Rattle.tl_model.specs.Tables.{Table, downward, upward, answer_at, chosen}
@@ -61,8 +61,9 @@ is_reachable past f = is_reachable_by past (makers past) f
 abbrev pub is_live : Past → Record → Bool
 is_live past r = is_task past (id_of r) || is_running past (id_of r)
 
+-- an input of the record, or one of its outputs
 abbrev pub is_end_of : FileId → Record → Bool
-is_end_of f r = has_input f r || record_same f.rec (id_of r)
+is_end_of f r = has_input f r || list_any (file_same f) (outputs_of r)
 
 -- the named files, the openly read ones, and the inputs and outputs of tasks and of running records
 abbrev pub is_root : Past → FileId → Bool

@@ -2,7 +2,7 @@
 use Rattle.std.proofs.Common.{◌≡◌, ℕ, suc, ◌+◌, ◌<◌, inl, inr, Bool, true, false, ◌&&◌, ◌||◌, List, [], ◌∷◌, length, reverse, slice_get, Some, refl, sym, ap, ◌∙◌, subst, arith}
 use Rattle.std.specs.List.{list_any}
 use Rattle.std.proofs.lemmas.Bool.{and_parts, or_left, or_right, or_cases, lt-ltb}
-use Rattle.tl_types.specs.Same.{file_same, file_same-Decides, record_same, record_same-Decides}
+use Rattle.tl_types.specs.Same.{file_same, file_same-Decides}
 use Rattle.tl_types.specs.declared.file_id.FileId.{FileId}
 use Rattle.tl_types.specs.declared.record_id.RecordId.{RecordId}
 use Rattle.tl_model.specs.declared.record.Record.{Record}
@@ -72,23 +72,6 @@ any-place p (x ∷ xs) is = elim (or_cases (p x) (list_any p xs) is) [
   | inr h ↦ (let it = any-place p xs h in (suc it.0, it.1, it.2, it.3))
 ]
 
-end-is-reached : (past : Past) → IsWhole past → (f : FileId) → IsOutputOf (records past) f → list_any (λ r. is_end_of f r && is_live past r) (records past) ≡ true →
-    is_reachable past f ≡ true
-end-is-reached past whole f out ends =
-    let it = any-place (λ r. is_end_of f r && is_live past r) (records past) ends in
-    let parts = and_parts (is_end_of f it.1) (is_live past it.1) it.3 in
-    elim (or_cases (has_input f it.1) (record_same f.rec (id_of it.1)) parts.0) [
-      | inl h ↦ input-is-reached past whole it.0 it.1 it.2 parts.1 f h
-      | inr h ↦ output-is-reached past whole it.0 it.1 it.2 parts.1 f ((record_same-Decides f.rec (id_of it.1)).0 h) out
-    ]
-
-pub root-is-reached : (past : Past) → IsWhole past → (f : FileId) → IsOutputOf (records past) f → is_root past f ≡ true → is_reachable past f ≡ true
-root-is-reached past whole f out root =
-    elim (or_cases (is_named past f || is_read past f) (list_any (λ r. is_end_of f r && is_live past r) (records past)) root) [
-      | inl used ↦ used-is-reached past whole f out used
-      | inr ends ↦ end-is-reached past whole f out ends
-    ]
-
 pub listed-output-is-reached : (past : Past) → IsWhole past → (i : ℕ) (r : Record) → slice_get (records past) i ≡ Some r → is_live past r ≡ true →
     (f : FileId) → list_any (file_same f) (outputs_of r) ≡ true → is_reachable past f ≡ true
 listed-output-is-reached past whole i r at live f listed =
@@ -98,3 +81,23 @@ listed-output-is-reached past whole i r at live f listed =
     let there : slice_get (records past) (id_of r).0 ≡ Some r = ap (λ (id : RecordId). slice_get (records past) id.0) (whole.sound.numbers i r at) ∙ at in
     let out : IsOutputOf (records past) (record { rec = id_of r; out = it.0 }) = ap (λ o. has_output o it.0) there ∙ lt-ltb it.0 (output_count r) small in
     output-is-reached past whole i r at live f (ap (λ (g : FileId). g.rec) file) (subst (λ (g : FileId). IsOutputOf (records past) g) (sym file) out)
+
+end-is-reached : (past : Past) → IsWhole past → (f : FileId) → list_any (λ r. is_end_of f r && is_live past r) (records past) ≡ true →
+    is_reachable past f ≡ true
+end-is-reached past whole f ends =
+    let it = any-place (λ r. is_end_of f r && is_live past r) (records past) ends in
+    let parts = and_parts (is_end_of f it.1) (is_live past it.1) it.3 in
+    elim (or_cases (has_input f it.1) (list_any (file_same f) (outputs_of it.1)) parts.0) [
+      | inl h ↦ input-is-reached past whole it.0 it.1 it.2 parts.1 f h
+      | inr h ↦ listed-output-is-reached past whole it.0 it.1 it.2 parts.1 f h
+    ]
+
+pub root-is-reached : (past : Past) → IsWhole past → (f : FileId) → is_root past f ≡ true → is_reachable past f ≡ true
+root-is-reached past whole f root =
+    elim (or_cases (is_named past f || is_read past f) (list_any (λ r. is_end_of f r && is_live past r) (records past)) root) [
+      | inl used ↦ elim (or_cases (is_named past f) (is_read past f) used) [
+        | inl n ↦ named-is-reached past whole f n
+        | inr r ↦ read-is-reached past whole f r
+      ]
+      | inr ends ↦ end-is-reached past whole f ends
+    ]

@@ -8,15 +8,15 @@ ghost use Rattle.tl_model.specs.declared.event.Event.{Event};
 ghost use Rattle.tl_model.specs.declared.header.Header.{Header};
 ghost use Rattle.tl_model.specs.declared.record.Record.{Record};
 ghost use Rattle.tl_model.specs.Past.{without_tickets};
-ghost use Rattle.tl_model.specs.History.{has_input, is_named, is_output, outputs_of, records};
+ghost use Rattle.tl_model.specs.History.{has_input, is_named, outputs_of, records};
 ghost use Rattle.tl_model.specs.Actors.{is_read};
 ghost use Rattle.tl_model.specs.Needs.{is_live, is_reachable, is_root};
 ghost use Rattle.tl_model.specs.Rules.{Judge, holds};
 
-/// After events that leave nothing owed, each root that is an output of an accepted record is reachable.
+/// After events that leave nothing owed, each root is reachable.
 pub fn roots_are_reachable<T>()
     ensures { (judge : Judge T) (header : Header) (events : List (Event T)) → holds judge header events ≡ true →
-        (f : FileId) → is_output (without_tickets events) f f.rec ≡ true → is_root (without_tickets events) f ≡ true → is_reachable (without_tickets events) f ≡ true }
+        (f : FileId) → is_root (without_tickets events) f ≡ true → is_reachable (without_tickets events) f ≡ true }
 {}
 
 /// Each file that is named, and each on which a read is open, is reachable.

@@ -18,6 +18,7 @@ pub fn roots()
     ensures unnamed { is_root (without_tickets (call 0 Fine (delete (codes "b")) ∷ both_done itself)) (file_of 1 0) ≡ false }
     ensures read { is_root (without_tickets (call 1 Fine (delete (codes "b")) ∷ reading itself)) (file_of 1 0) ≡ true }
     ensures output_of_running { is_root (without_tickets (running_only itself)) (file_of 1 0) ≡ true }
+    ensures no_output_of_running { is_root (without_tickets (running_only itself)) (file_of 1 1) ≡ false }
     ensures input_of_running { is_root (without_tickets (call 0 Fine (delete (codes "a")) ∷ running_only itself)) (file_of 0 0) ≡ true }
     ensures beside_running { is_root (without_tickets (call 0 Fine (delete (codes "c")) ∷ running_only itself)) (file_of 2 0) ≡ false }
 {}
