@@ -2,9 +2,13 @@
 #![tactic(auto)]
 
 mod graph;
+mod laws;
 mod slot;
 #[cfg(test)]
 mod tests;
 
 pub use graph::{Graph, RECORDS_LIMIT};
+pub use laws::{
+    readers_are_of_all_records, records_are_found_while_kept, slots_follow_the_journal,
+};
 pub use slot::Slot;
