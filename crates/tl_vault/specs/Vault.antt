@@ -5,11 +5,11 @@ use Rattle.tl_types.specs.Same.{file_same}
 use Rattle.tl_types.specs.declared.file_id.FileId.{FileId}
 use Rattle.tl_model.specs.declared.saved.Saved.{Saved}
 
--- each file with what is kept of it, the newest first, and how many more may be put in
+-- each file with what is kept of it, in the order in which they were put in, and how many more may be put in
 pub record Keepings (T : Type 0) : Type 0 where
   pub entries : List (FileId × Saved T)
   pub spare : ℕ
 
 -- what is kept of a file
 abbrev pub saved_of : {T : Type 0} → FileId → List (FileId × Saved T) → Option (Saved T)
-saved_of f entries = option_map (λ e. e.1) (find (λ e. file_same e.0 f) entries)
+saved_of f entries = option_map (λ e. e.1) (find (λ e. file_same f e.0) entries)

@@ -1,32 +1,35 @@
-ghost use Rattle.std.specs.Prelude.{◌≡◌, ◌+◌, ◌-◌, ◌<◌, ◌≤◌, ◌∷◌, ◌++◌, [], None, reverse, vec_len, vec_capacity, OnOk, OnErr};
+ghost use Rattle.std.specs.Prelude.{◌≡◌, ◌+◌, ◌-◌, ◌<◌, ◌≤◌, ◌∷◌, ◌++◌, [], None, OnOk, OnErr};
 ghost use Rattle.std.specs.Option.{option_copied};
+ghost use Rattle.indexmap.specs.IndexMap.{spare as places_of};
 ghost use Rattle.tl_vault.specs.Vault.{saved_of};
 
+use indexmap::IndexMap;
 use std::alloc::Global;
 use std::marker::Model;
 use tl_model::Saved;
 use tl_types::{FileId, NoMemory};
 
-/// What is kept of each file in the checkpoint store. Contracts see the entries, the newest first,
-/// and how many more may be put in without asking for memory.
+/// What is kept of each file in the checkpoint store. Contracts see the entries, in the order in which
+/// they were put in, and how many more may be put in without asking for memory.
 #[derive(Debug, Drop)]
 pub struct Vault<T> {
-    entries: Vec<(FileId, Saved<T>)>,
+    table: IndexMap<FileId, Saved<T>>,
     spare: usize,
 }
 
 impl<T> Model for Vault<T> {
-    ghost use Rattle.std.specs.Prelude.{◌+◌, ◌≤◌, reverse, vec_len, vec_capacity};
+    ghost use Rattle.std.specs.Prelude.{◌≤◌};
     ghost use Rattle.std.specs.Coded.{codes};
+    ghost use Rattle.indexmap.specs.IndexMap.{spare as places_of};
     ghost use Rattle.tl_vault.specs.Vault.{Keepings};
 
     ghost Value = { Keepings T };
 
     ghost coded = { Prim.hlevel (codes, T.code) };
 
-    ghost view = { λ v. record { entries = reverse v.entries.items; spare = v.spare } };
+    ghost view = { λ v. record { entries = v.table.entries; spare = v.spare } };
 
-    ghost invariant = { λ v. vec_len v.entries + v.spare ≤ vec_capacity v.entries };
+    ghost invariant = { λ v. v.spare ≤ places_of v.table };
 }
 
 impl<T> Vault<T> {
@@ -36,7 +39,7 @@ impl<T> Vault<T> {
         ensures spare { result.spare ≡ 0 }
     {
         Vault {
-            entries: Vec::new(alloc),
+            table: IndexMap::new(alloc),
             spare: 0,
         }
     }
@@ -49,7 +52,7 @@ impl<T> Vault<T> {
         ensures err { OnErr result (self.new ≡ self.old) }
     {
         let spare = self.spare.checked_add(1).ok_or(NoMemory)?;
-        self.entries.reserve(spare)?;
+        self.table.reserve(spare)?;
         self.spare = spare;
         Ok(())
     }
@@ -58,7 +61,7 @@ impl<T> Vault<T> {
     pub fn get(&self, f: FileId) -> Option<&Saved<T>>
         ensures { option_copied result ≡ saved_of f self.now.entries }
     {
-        newest(self.entries.as_slice(), f)
+        find_saved(&self.table, f)
     }
 }
 
@@ -68,28 +71,29 @@ impl<T: Drop> Vault<T> {
     pub fn insert(&mut self, f: FileId, saved: Saved<T>)
         requires room { 0 < self.old.spare }
         requires absent { saved_of f self.old.entries ≡ None }
-        ensures entries { self.new.entries ≡ (f, saved) ∷ self.old.entries }
+        ensures entries { self.new.entries ≡ self.old.entries ++ (f, saved) ∷ [] }
         ensures spare { self.new.spare ≡ self.old.spare - 1 }
     {
-        push_within(&mut self.entries, f, saved);
+        put_within(&mut self.table, f, saved);
         self.spare -= 1;
     }
 }
 
-// What the newest entry of a file keeps.
-fn newest<T>(entries: &[(FileId, Saved<T>)], f: FileId) -> Option<&Saved<T>>
-    ensures { option_copied result ≡ saved_of f (reverse entries.now) }
+// What the entry of a file keeps.
+fn find_saved<T>(table: &IndexMap<FileId, Saved<T>>, f: FileId) -> Option<&Saved<T>>
+    ensures { option_copied result ≡ saved_of f table.now.entries }
 {
-    entries.iter().rev().find(|e| e.0 == f).map(|e| &e.1)
+    table.get(&f)
 }
 
-// Appends an entry to a vector that has room for it.
-fn push_within<T: Drop>(entries: &mut Vec<(FileId, Saved<T>)>, f: FileId, saved: Saved<T>)
-    requires { vec_len entries.old < vec_capacity entries.old }
-    ensures items { entries.new.items ≡ entries.old.items ++ (f, saved) ∷ [] }
-    ensures capacity { vec_capacity entries.old ≤ vec_capacity entries.new }
+// Adds an entry of a file, which has none, to a table that has a place for it.
+fn put_within<T: Drop>(table: &mut IndexMap<FileId, Saved<T>>, f: FileId, saved: Saved<T>)
+    requires place { 0 < places_of table.old }
+    requires absent { saved_of f table.old.entries ≡ None }
+    ensures entries { table.new.entries ≡ table.old.entries ++ (f, saved) ∷ [] }
+    ensures places { places_of table.old ≤ places_of table.new + 1 }
 {
-    if entries.push((f, saved)).is_err() {
+    if table.insert(f, saved).is_err() {
         unreachable!();
     }
 }
