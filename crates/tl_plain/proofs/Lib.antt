@@ -5,3 +5,4 @@ pub mod Files
 pub mod Awaits
 pub mod Waits
 pub mod Workers
+pub mod Making

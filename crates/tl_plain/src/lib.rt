@@ -1,5 +1,5 @@
-//! Plain answers about a journal: the plan of its jobs, and what is evicted, saved and let go next. Each
-//! is found by its definition.
+//! Plain answers about a journal: the plan of its jobs, what is evicted, saved and let go next, and what
+//! can be had again. Each is found by its definition.
 #![tactic(auto)]
 
 mod accepted;
@@ -9,6 +9,7 @@ mod lives;
 mod needs;
 mod outputs;
 mod plan;
+mod reach;
 mod same;
 mod seen;
 mod tables;
@@ -22,5 +23,6 @@ pub use lives::Life;
 pub use needs::Needs;
 pub use outputs::files as files_of;
 pub use plan::Plan;
+pub use reach::Reach;
 pub use seen::Seen;
 pub use tasks::Tasks;

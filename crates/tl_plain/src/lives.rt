@@ -150,8 +150,8 @@ fn is_use<T>(records: &[Accepted], act: &Act<T>, file: Output) -> bool
     }
 }
 
-// Whether the file is an output of the record of this number.
-fn is_output(records: &[Accepted], file: Output, made: RecordId) -> bool
+/// Whether the file is an output of the record of this number.
+pub(crate) fn is_output(records: &[Accepted], file: Output, made: RecordId) -> bool
     ensures { result ≡ is_output_in (records_in records.now) file made }
 {
     match record_at(records, made) {

@@ -1,5 +1,5 @@
 use crate::{
-    Needs, Plan, Seen, Sizes, Tasks, edge_of, files_of, files_on, first_to_drop, is_settled,
+    Needs, Plan, Reach, Seen, Sizes, Tasks, edge_of, files_of, files_on, first_to_drop, is_settled,
     next_save, used, victim,
 };
 use std::test::Fail;
@@ -128,6 +128,11 @@ fn a_plan(rt: HostRuntime) -> Result<(), Fail> {
     assert_eq!(rt; needs.garbage(), Some(RecordId(0)));
     for (made, is_needed) in [(0, false), (1, true), (2, true)] {
         assert_eq!(rt; needs.is_needed(RecordId(made)), is_needed, "{made}");
+    }
+    let reach = Reach::new(rt.alloc(), tasks)?;
+    for (made, is_made) in [(0, true), (1, true), (2, true), (3, false)] {
+        assert_eq!(rt; reach.is_reachable(output(made)), is_made, "{made}");
+        assert_eq!(rt; reach.is_root(rt.alloc(), output(made))?, is_made, "{made}");
     }
     Ok(())
 }
