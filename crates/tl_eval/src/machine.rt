@@ -57,13 +57,14 @@ impl Machine {
         inputs: Vec<Outcome>,
     ) -> Result<Machine, NoMemory>
         requires { KindsHold spec.now.program.program (length inputs.items) (length spec.now.program.program.outputs) }
-        ensures { IfOk result (λ m. m ≡ record {
+        ensures begun { IfOk result (λ m. m ≡ record {
           outcomes = job_mean spec.now inputs.items;
           total = job_entered spec.now inputs.items;
           entered = 0;
           is_answered = false;
           has_failed = false;
         }) }
+        ensures sound { IfOk result (λ m. All IsOutcome m.outcomes) }
     {
         let state = match begin(alloc, spec.get(), inputs)? {
             Progress::Going(running) => State::Going(running),
