@@ -1,5 +1,5 @@
 -- How slots stand for the accepted records of a past.
-use Rattle.std.specs.Prelude.{◌≡◌, ℕ, Bool, true, false, List, ◌++◌, map, option_map, slice_get}
+use Rattle.std.specs.Prelude.{◌≡◌, ℕ, Bool, true, false, List, [], ◌∷◌, ◌++◌, map, option_map, slice_get}
 use Rattle.tl_model.specs.declared.event.Act.{Act}
 use Rattle.tl_model.specs.declared.event.Act.TheVariants.{Call, Collect}
 use Rattle.tl_model.specs.declared.record.Record.{Record}
@@ -32,3 +32,8 @@ abbrev pub slots_after : Past → Act (Unit {0}) → List Slot → List Slot
 slots_after past (Call command reply) slots = slots ++ map Kept (record_made reply command (names past))
 slots_after past (Collect made) slots = with_removed made.0 slots
 slots_after past _ slots = slots
+
+-- the slots that the events of a past leave, from none
+abbrev pub slots_of : Past → List Slot
+slots_of [] = []
+slots_of (e ∷ past) = slots_after past e.act (slots_of past)

@@ -9,6 +9,7 @@ mod tests;
 
 pub use graph::{Graph, RECORDS_LIMIT};
 pub use laws::{
-    readers_are_of_all_records, records_are_found_while_kept, slots_follow_the_journal,
+    lawful_journals_have_slots, readers_are_of_all_records, records_are_found_while_kept,
+    slots_follow_the_journal,
 };
 pub use slot::Slot;
