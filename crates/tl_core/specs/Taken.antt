@@ -43,14 +43,6 @@ Supplies events residents = (f : FileId) → is_available (without_tickets event
 abbrev pub AreSupplied : {T : Type 0} → List (Event T) → Residents → List FileId → Type 0
 AreSupplied events residents files = AllByRecursion (λ f. (is_some (found f residents) || is_some (kept_put events f)) ≡ true) files
 
--- the record that is next is a job whose inputs are available
-pub record IsNext (past : Past) (made : RecordId) : Type 0 where
-  pub it : Record
-  pub at : record_at past made ≡ Some it
-  pub id : id_of it ≡ made
-  pub job : is_job it ≡ true
-  pub fed : all_available past (inputs_of it) ≡ true
-
 -- the record of this number is this job, and there is one feed for each input
 abbrev pub IsTaken : {T : Type 0} → (T → List ℕ) → List (Event T) → Residents → Taken T → Type 0
 IsTaken content events residents taken =

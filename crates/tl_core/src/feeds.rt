@@ -6,7 +6,8 @@ ghost use Rattle.tl_model.specs.Past.{without_tickets};
 ghost use Rattle.tl_laws.specs.Numbers.{Numbered};
 ghost use Rattle.tl_core.specs.Puts.{kept_put};
 ghost use Rattle.tl_core.specs.Residents.{found};
-ghost use Rattle.tl_core.specs.Taken.{AreFedBy, AreSupplied, IsFedBy, IsNext, IsTaken, Supplies, TakesUp};
+ghost use Rattle.tl_laws.specs.Next.{IsNext};
+ghost use Rattle.tl_core.specs.Taken.{AreFedBy, AreSupplied, IsFedBy, IsTaken, Supplies, TakesUp};
 ghost use Rattle.std.specs.Option.{option_copied};
 ghost use Rattle.tl_walk.specs.Accepts.{record_of, records_in};
 

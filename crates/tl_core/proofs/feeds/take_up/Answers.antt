@@ -1,7 +1,7 @@
 use Rattle.std.proofs.Common.{◌≡◌, reverse, sym, ap, ◌∙◌}
 use Rattle.tl_model.specs.Past.{without_tickets}
 use Rattle.tl_model.specs.Plan.{next}
-use Rattle.tl_core.proofs.Taking.{next-is}
+use Rattle.tl_laws.specs.Next.{next-is}
 use Rattle.tl_core.proofs.feeds.take_up.Goals as goal
 
 pub take-requires-clause-next : goal.take-requires-clause-next
