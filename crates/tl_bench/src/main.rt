@@ -6,11 +6,14 @@ mod alone;
 mod book;
 mod chain;
 mod crowd;
+mod evaluation;
+mod fold;
 mod measure;
 mod pace;
 mod script;
 #[cfg(test)]
 mod tests;
+mod text;
 mod turns;
 
 use crate::measure::Measure;
@@ -25,6 +28,8 @@ fn main(rt: HostRuntime) -> io::Result<ExitCode> {
     match Measure::of(&words) {
         Some(Measure::Script { lines }) => script::measure(&rt, rt.alloc(), lines)?,
         Some(Measure::Chain { jobs }) => chain::measure(&rt, rt.alloc(), jobs)?,
+        Some(Measure::Fold { lines }) => fold::measure(&rt, rt.alloc(), lines)?,
+        Some(Measure::Text { bytes }) => text::measure(&rt, rt.alloc(), bytes)?,
         Some(Measure::Small) => small(&rt)?,
         Some(Measure::Turns { seats, turns }) => turns::measure(&rt, rt.alloc(), seats, turns)?,
         None => {
@@ -39,5 +44,7 @@ fn main(rt: HostRuntime) -> io::Result<ExitCode> {
 fn small(rt: &HostRuntime) -> io::Result<()> {
     let alloc = rt.alloc();
     script::measure(rt, alloc, 10)?;
-    chain::measure(rt, alloc, 3)
+    chain::measure(rt, alloc, 3)?;
+    fold::measure(rt, alloc, 10)?;
+    text::measure(rt, alloc, 100)
 }

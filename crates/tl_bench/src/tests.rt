@@ -4,7 +4,7 @@ use std::alloc::{AllocError, Global};
 use std::test::Fail;
 
 /// Words, and the measurement that they name.
-const CASES: [(&str, Option<Measure>); 11] = [
+const CASES: [(&str, Option<Measure>); 15] = [
     ("script 10", Some(Measure::Script { lines: 10 })),
     (
         "turns 8 1000",
@@ -21,6 +21,10 @@ const CASES: [(&str, Option<Measure>); 11] = [
         }),
     ),
     ("chain 200", Some(Measure::Chain { jobs: 200 })),
+    ("fold 65535", Some(Measure::Fold { lines: 65_535 })),
+    ("fold 65536", None),
+    ("text 1048576", Some(Measure::Text { bytes: 1_048_576 })),
+    ("text 1048577", None),
     ("small", Some(Measure::Small)),
     ("", None),
     ("script", None),
