@@ -1,8 +1,9 @@
 -- Beginnings of journals that a refused event is put after.
-use Rattle.std.specs.Prelude.{[], ◌∷◌, codes}
+use Rattle.std.specs.Prelude.{Bool, [], ◌∷◌, codes}
 use Rattle.tl_model.specs.declared.reply.Reply.TheVariants.{Fine}
-use Rattle.tl_model.specs.Past.{Told}
-use Rattle.tl_rows.specs.Words.{DigestOf, at, back, call, cat, claim, collect, delete, done, file_of, free, job, load, lose, made, opened, put, save, saved, served, shut, then_text, unsave}
+use Rattle.tl_model.specs.Past.{Told, without_tickets}
+use Rattle.tl_model.specs.Rules.{is_permitted, lawful_judge}
+use Rattle.tl_rows.specs.Words.{DigestOf, Line, at, back, call, cat, claim, collect, delete, done, file_of, free, header, job, load, lose, made, opened, put, save, saved, served, shut, then_text, unsave}
 
 -- a saved put, and two jobs that read it
 abbrev pub start : DigestOf → Told
@@ -110,3 +111,7 @@ given_back digest =
     ∷ back 0 1
     ∷ claim 0 0 1
     ∷ start digest
+
+-- whether an event's own rule permits it after these, whatever is owed
+abbrev pub is_allowed : Told → Line → Bool
+is_allowed past line = is_permitted lawful_judge (header 2 100 9) past (without_tickets past) line.actor line.act

@@ -6,6 +6,7 @@ mod deleted_input;
 mod eviction;
 mod inherited_priority;
 mod log_count;
+mod own_rules;
 mod pins;
 mod refused_calls;
 mod refused_collects;
