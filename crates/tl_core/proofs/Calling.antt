@@ -1,12 +1,12 @@
 -- A call is recorded.
-use Rattle.std.proofs.Common.{◌≡◌, ℕ, ◌+◌, ◌<◌, ◌≤◌, Bool, true, false, not, if◌then◌else◌, bytes_eq, List, [], ◌∷◌, ◌++◌, length, map, slice_get, Option, Some, None, unwrap_or, Result, Ok, Err, refl, sym, ap, ◌∙◌, arith, length-append}
+use Rattle.std.proofs.Common.{◌≡◌, ℕ, ◌+◌, ◌<◌, Bool, true, false, if◌then◌else◌, bytes_eq, List, [], ◌∷◌, ◌++◌, length, slice_get, Option, Some, unwrap_or, refl, sym, ap, ◌∙◌, arith, length-append}
 use Rattle.std.specs.List.{AllByRecursion}
 use Rattle.std.specs.Option.{option_and_then}
 use Rattle.std.specs.Cmp.Lexicographic.{pointwise}
 use Rattle.std.proofs.lemmas.Bool.{and_from}
 use Rattle.std.proofs.lemmas.Bool.Decides.{Decides-eqb}
 use Rattle.std.proofs.lemmas.Slice.Eq.{bytes_eq-Decides}
-use Rattle.tl_types.specs.Same.{record_same-Decides, file_same, file_same-Decides, path_same}
+use Rattle.tl_types.specs.Same.{record_same-Decides, file_same, file_same-Decides}
 use Rattle.tl_types.specs.declared.actor.Actor.{Actor}
 use Rattle.tl_types.specs.declared.digest.Digest.{Digest}
 use Rattle.tl_types.specs.declared.file_id.FileId.{FileId}
@@ -24,18 +24,17 @@ use Rattle.tl_model.specs.declared.event.Act.TheVariants.{Call, Served, Shut, Cl
 use Rattle.tl_model.specs.declared.event.Event.{Event}
 use Rattle.tl_model.specs.declared.record.Record.{Record}
 use Rattle.tl_model.specs.Past.{command_with, act_with, events_with, without_tickets}
-use Rattle.tl_model.specs.Namespace.{PathOf, Node, dir, file, Names, with_pin, with_outputs, moved}
-use Rattle.tl_model.specs.Replies.{reply_to, reply_same, entry_same, bool_same, status_same, walk, walk_to_file, opened, reply_to_stat, reply_to_list, unless, Found, new_refusal, or_else as or_refusal, count_refusal, inputs_refusal, outputs_refusal, delete_refusal, rename_refusal, refusal_of}
-use Rattle.tl_model.specs.History.{HistoryOf, calls_of, names, names_of, names_after, records, records_of, record_made, files_at, with_call}
+use Rattle.tl_model.specs.Namespace.{Names}
+use Rattle.tl_model.specs.Replies.{reply_to, reply_same, entry_same, bool_same, status_same}
+use Rattle.tl_model.specs.History.{HistoryOf, calls_of, names, names_of, records, records_of, record_made, files_at, with_call}
 use Rattle.tl_model.specs.Values.{Outcomes, outcomes_of, outcomes_made, value, no_outcome}
 use Rattle.tl_model.specs.Rules.{put_as}
-use Rattle.tl_walk.specs.Answered.{NamesWide}
 use Rattle.tl_laws.specs.Numbers.{get-left, get-within}
-use Rattle.tl_laws.specs.Refusals.{OnlyRefuses, OnlyRefusesOr, accepts, put_made as put-number, inputs-unrefused, or_else-refuses, new_refusal-refuses, refuse_where-refuses, inputs-refuse, outputs-refuse, delete-refuses, rename-refuses, walk-refuses, walk_to_file-refuses, refusal_of-refuses}
-use Rattle.tl_laws.specs.Paths.{walk-finds, walk_to_file-finds, inputs-found, node-among}
-use Rattle.tl_core.specs.State.{IsSound, IsNarrow, IsNarrowName}
+use Rattle.tl_laws.specs.Refusals.{put_made as put-number, inputs-unrefused}
+use Rattle.tl_laws.specs.Paths.{inputs-found}
+use Rattle.tl_names.specs.Answers.{HasFewOutputs}
+use Rattle.tl_core.specs.State.{IsSound}
 use Rattle.tl_core.specs.Called.{IsFitting}
-use Rattle.tl_core.proofs.Held.{all-filter}
 
 -- ---- replies
 
@@ -70,129 +69,19 @@ reply-same TooDeep = refl
 reply-same IntoItself = refl
 reply-same TooMany = refl
 
--- ---- files are narrow
-
-narrow-unless : (refusal : Option Reply) (fine : Reply) → OnlyRefuses refusal → (NamesWide fine → ⊥) → NamesWide (unless refusal fine) → ⊥
-narrow-unless None fine h never wide = never wide
-narrow-unless (Some (Opened f)) fine h never wide = absurd (cc)
-narrow-unless (Some (Stated s)) fine h never wide = absurd (cc)
-narrow-unless (Some (Made made)) fine h never wide = wide
-narrow-unless (Some Fine) fine h never wide = wide
-narrow-unless (Some (Listed entries)) fine h never wide = wide
-narrow-unless (Some Exists) fine h never wide = wide
-narrow-unless (Some NoSuch) fine h never wide = wide
-narrow-unless (Some NotFile) fine h never wide = wide
-narrow-unless (Some NotDir) fine h never wide = wide
-narrow-unless (Some NotEmpty) fine h never wide = wide
-narrow-unless (Some TooDeep) fine h never wide = wide
-narrow-unless (Some IntoItself) fine h never wide = wide
-narrow-unless (Some TooMany) fine h never wide = wide
-
-narrow-refusal : (r : Reply) → accepts r ≡ false → NamesWide r → ⊥
-narrow-refusal r h wide = narrow-unless (Some r) Fine h (λ w. w) wide
-
-narrow-opened : (names : Names) (path : PathOf) (x : Result FileId Reply) → AllByRecursion IsNarrowName names → walk_to_file names path ≡ x → OnlyRefusesOr x → NamesWide (opened x) → ⊥
-narrow-opened names path (Ok f) all e h wide =
-    let found = walk_to_file-finds names path f e in
-    let narrow : f.out < 256 = node-among IsNarrow names path (file f found.0) all found.1 in
-    omega arith
-narrow-opened names path (Err r) all e h wide = narrow-refusal r h wide
-
-narrow-stat : (names : Names) (path : PathOf) (x : Found) → AllByRecursion IsNarrowName names → walk names path ≡ x → OnlyRefusesOr x → NamesWide (reply_to_stat names path x) → ⊥
-narrow-stat names path (Ok dir) all e h wide = wide
-narrow-stat names path (Ok (file f pinned)) all e h wide =
-    let narrow : f.out < 256 = node-among IsNarrow names path (file f pinned) all (walk-finds names path (file f pinned) e) in
-    omega arith
-narrow-stat names path (Err r) all e h wide = narrow-refusal r h wide
-
-narrow-list : (names : Names) (path : PathOf) (x : Found) → OnlyRefusesOr x → NamesWide (reply_to_list names path x) → ⊥
-narrow-list names path (Ok dir) h wide = wide
-narrow-list names path (Ok (file f pinned)) h wide = wide
-narrow-list names path (Err r) h wide = narrow-refusal r h wide
-
-file-refuses : (names : Names) (path : PathOf) → OnlyRefuses (refusal_of (walk_to_file names path))
-file-refuses names path = refusal_of-refuses (walk_to_file names path) (walk_to_file-refuses names path)
-
-count-refuses : (count : ℕ) → OnlyRefuses (count_refusal count)
-count-refuses count = refuse_where-refuses _ TooMany refl
-
--- on narrow names no reply names a file whose number no byte holds
-pub never-wide : {T : Type 0} (names : Names) (count : ℕ) (command : Command T) → AllByRecursion IsNarrowName names → NamesWide (reply_to names count command) → ⊥
-never-wide names count (Put path len digest ticket) all wide =
-    narrow-unless (or_refusal (new_refusal names path) (count_refusal count)) (Made (record { 0 = count }))
-    (or_else-refuses (new_refusal names path) (count_refusal count) (new_refusal-refuses names path) (count-refuses count)) (λ w. w) wide
-never-wide names count (Job core prio inputs outputs) all wide =
-    narrow-unless (or_refusal (inputs_refusal names inputs) (or_refusal (outputs_refusal names count 0 outputs) (count_refusal count))) (Made (record { 0 = count }))
-    (or_else-refuses (inputs_refusal names inputs) (or_refusal (outputs_refusal names count 0 outputs) (count_refusal count)) (inputs-refuse names inputs)
-    (or_else-refuses (outputs_refusal names count 0 outputs) (count_refusal count) (outputs-refuse names count 0 outputs) (count-refuses count))) (λ w. w) wide
-never-wide names count (Read path prio form) all wide = narrow-opened names path (walk_to_file names path) all refl (walk_to_file-refuses names path) wide
-never-wide names count (Delete path) all wide = narrow-unless (delete_refusal names path) Fine (delete-refuses names path) (λ w. w) wide
-never-wide names count (Mkdir path) all wide = narrow-unless (new_refusal names path) Fine (new_refusal-refuses names path) (λ w. w) wide
-never-wide names count (Rename from to) all wide = narrow-unless (rename_refusal names from to) Fine (rename-refuses names from to) (λ w. w) wide
-never-wide names count (Pin path) all wide = narrow-unless (refusal_of (walk_to_file names path)) Fine (file-refuses names path) (λ w. w) wide
-never-wide names count (Unpin path) all wide = narrow-unless (refusal_of (walk_to_file names path)) Fine (file-refuses names path) (λ w. w) wide
-never-wide names count (list path) all wide = narrow-list names path (walk names path) (walk-refuses names path) wide
-never-wide names count (Stat path) all wide = narrow-stat names path (walk names path) all refl (walk-refuses names path) wide
-never-wide names count (free path) all wide = narrow-unless (refusal_of (walk_to_file names path)) Fine (file-refuses names path) (λ w. w) wide
-
-narrow-outputs : (names : Names) (made : RecordId) (k : ℕ) (outputs : List PathOf) → AllByRecursion IsNarrowName names → k + length outputs ≤ 256 →
-    AllByRecursion IsNarrowName (with_outputs names made k outputs)
-narrow-outputs names made k [] all few = all
-narrow-outputs names made k (path ∷ outputs) all few =
-    let here : k < 256 = omega arith in
-    narrow-outputs ((path, file (record { rec = made; out = k }) false) ∷ names) made (k + 1) outputs (here, all) (omega arith)
-
-all-mapped : {A B : Type 0} (P : A → Type 0) (Q : B → Type 0) (g : A → B) → ((a : A) → P a → Q (g a)) → (xs : List A) → AllByRecursion P xs → AllByRecursion Q (map g xs)
-all-mapped P Q g f [] h = tt
-all-mapped P Q g f (x ∷ xs) h = (f x h.0, all-mapped P Q g f xs h.1)
-
-narrow-pin : (b pinned : Bool) (node : Node) → IsNarrow node → IsNarrow (if b then with_pin pinned node else node)
-narrow-pin true pinned dir h = tt
-narrow-pin true pinned (file f was) h = h
-narrow-pin false pinned node h = h
-
-pub narrow-after : {T : Type 0} (reply : Reply) (command : Command T) (names : Names) → IsFitting command → AllByRecursion IsNarrowName names →
-    AllByRecursion IsNarrowName (names_after reply command names)
-narrow-after (Made made) (Put path len digest ticket) names fits all = (let here : 0 < 256 = omega arith in here, all)
-narrow-after (Made made) (Job core prio inputs outputs) names fits all =
-    let few : length outputs ≤ 255 = fits.2 in
-    let enough : 0 + length outputs ≤ 256 = omega arith in
-    narrow-outputs names made 0 outputs all enough
-narrow-after (Made made) (Read path prio form) names fits all = all
-narrow-after (Made made) (Delete path) names fits all = all
-narrow-after (Made made) (Mkdir path) names fits all = all
-narrow-after (Made made) (Rename from to) names fits all = all
-narrow-after (Made made) (Pin path) names fits all = all
-narrow-after (Made made) (Unpin path) names fits all = all
-narrow-after (Made made) (list path) names fits all = all
-narrow-after (Made made) (Stat path) names fits all = all
-narrow-after (Made made) (free path) names fits all = all
-narrow-after Fine (Put path len digest ticket) names fits all = all
-narrow-after Fine (Job core prio inputs outputs) names fits all = all
-narrow-after Fine (Read path prio form) names fits all = all
-narrow-after Fine (Delete path) names fits all = all-filter IsNarrowName IsNarrowName (λ entry. not (path_same path entry.0)) (λ entry h stays. h) names all
-narrow-after Fine (Mkdir path) names fits all = (tt, all)
-narrow-after Fine (Rename from to) names fits all = all-mapped IsNarrowName IsNarrowName (λ entry. (moved from to entry.0, entry.1)) (λ entry h. h) names all
-narrow-after Fine (Pin path) names fits all =
-    all-mapped IsNarrowName IsNarrowName (λ entry. (entry.0, if path_same path entry.0 then with_pin true entry.1 else entry.1))
-    (λ entry h. narrow-pin (path_same path entry.0) true entry.1 h) names all
-narrow-after Fine (Unpin path) names fits all =
-    all-mapped IsNarrowName IsNarrowName (λ entry. (entry.0, if path_same path entry.0 then with_pin false entry.1 else entry.1))
-    (λ entry h. narrow-pin (path_same path entry.0) false entry.1 h) names all
-narrow-after Fine (list path) names fits all = all
-narrow-after Fine (Stat path) names fits all = all
-narrow-after Fine (free path) names fits all = all
-narrow-after (Opened g) command names fits all = all
-narrow-after (Listed entries) command names fits all = all
-narrow-after (Stated s) command names fits all = all
-narrow-after Exists command names fits all = all
-narrow-after NoSuch command names fits all = all
-narrow-after NotFile command names fits all = all
-narrow-after NotDir command names fits all = all
-narrow-after NotEmpty command names fits all = all
-narrow-after TooDeep command names fits all = all
-narrow-after IntoItself command names fits all = all
-narrow-after TooMany command names fits all = all
+-- a fitting command has few outputs
+pub fitting-few : {T : Type 0} (command : Command T) → IsFitting command → HasFewOutputs command
+fitting-few (Put path len digest ticket) h = tt
+fitting-few (Job core prio inputs outputs) h = h.2
+fitting-few (Read path prio form) h = tt
+fitting-few (Delete path) h = tt
+fitting-few (Mkdir path) h = tt
+fitting-few (Rename from to) h = tt
+fitting-few (Pin path) h = tt
+fitting-few (Unpin path) h = tt
+fitting-few (list path) h = tt
+fitting-few (Stat path) h = tt
+fitting-few (free path) h = tt
 
 -- the same without tickets
 pub fitting-plain : {T U : Type 0} (g : T → U) (command : Command T) → IsFitting command → IsFitting (command_with g command)

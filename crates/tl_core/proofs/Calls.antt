@@ -42,7 +42,7 @@ use Rattle.tl_core.proofs.Told.{plain-told}
 use Rattle.tl_core.proofs.Count.{under_way-few}
 use Rattle.tl_core.proofs.Held.{all-map}
 use Rattle.tl_core.proofs.Carry.{same_either}
-use Rattle.tl_core.proofs.Calling.{reply-same, put-stays, sound-made, narrow-after, fitting-plain, record-stays, all-append, value-stays, outcome-count}
+use Rattle.tl_core.proofs.Calling.{reply-same, put-stays, sound-made, fitting-plain, record-stays, all-append, value-stays, outcome-count}
 
 same-reply : {T : Type 0} (events : List (Event T)) (command : Command T) (reply : Reply) → reply ≡ reply_after (calls_of events) command →
     reply_same (reply_after (calls_of events) command) reply ≡ true
@@ -125,7 +125,6 @@ called_plain tells content header events residents spare room actor command repl
       places = s.places;
       blocks = blocks-stay tells content header events residents spare room actor command reply s is;
       sound = sound-stays tells content header events residents spare room actor command reply s is fits;
-      narrow = narrow-after reply (command_with {U = Unit {0}} (λ _. tt) command) (names past) (fitting-plain (λ _. tt) command fits) s.narrow;
       saved = λ f. s.saved f ∙ ap (option_map as_saved) (sym (kept f (kept_put events f)));
       puts = λ f put k.
           let old = s.puts f put (sym (kept f (kept_put events f)) ∙ k) in (
@@ -236,7 +235,6 @@ called_put tells content header events residents spare room actor path len diges
       places = s.places;
       blocks = blocks-stay tells content header events residents spare room actor command (Made made) s is;
       sound = sound-stays tells content header events residents spare room actor command (Made made) s is fits;
-      narrow = narrow-after (Made made) (command_with {U = Unit {0}} (λ _. tt) command) (names past) fits s.narrow;
       saved = λ g. ap (λ (o : Option _). if file_same g f then Some (record { size = len; digest = digest }) else o) (s.saved g)
           ∙ saved-if (file_same g f) (record { ticket = ticket; len = len; digest = digest }) (kept_put events g);
       puts = λ g put k. puts-if content events actor path len digest ticket made g (kept_put events g) put (file_same g f) refl at (s.puts g put) k;

@@ -204,7 +204,6 @@ done tells content header events residents spare actor worker made blocks s is k
           (sym (output-at past b.file made (record_at past made) (map file_of blocks) refl outputs numbers) ∙ h.0) h.1)
           blocks (all-both (λ b. list_any (file_same b.file) (map file_of blocks) ≡ true) (λ b. tells ≡ true → b.outcome ≡ value (events_with content events) b.file) blocks (each-any blocks) values));
       sound = s.sound;
-      narrow = s.narrow;
       saved = s.saved;
       puts = s.puts;
       whole = s.whole;

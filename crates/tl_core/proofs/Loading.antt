@@ -148,7 +148,6 @@ brought tells content header events residents spare room actor worker block dige
             ),
           );
       sound = s.sound;
-      narrow = s.narrow;
       saved = s.saved;
       puts = s.puts;
       whole = s.whole;

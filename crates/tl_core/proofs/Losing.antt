@@ -64,7 +64,6 @@ lost tells content header events residents spare room actor worker s known enoug
       blocks = all-filter (IsHeld tells content events) (IsHeld tells content (record { actor = actor; act = Lose worker } ∷ events)) (is_elsewhere worker)
           (λ r h stays. (elsewhere-stays worker (place past r.block.file) r (worker_same worker r.worker) refl h.0 stays, h.1)) residents s.blocks;
       sound = s.sound;
-      narrow = s.narrow;
       saved = s.saved;
       puts = s.puts;
       whole = s.whole;

@@ -77,7 +77,6 @@ served tells content header events residents spare actor digest read it s is her
       places = s.places;
       blocks = s.blocks;
       sound = s.sound;
-      narrow = s.narrow;
       saved = s.saved;
       puts = s.puts;
       whole = s.whole;
@@ -103,7 +102,6 @@ shut tells content header events residents spare actor read s is known =
       places = s.places;
       blocks = s.blocks;
       sound = s.sound;
-      narrow = s.narrow;
       saved = s.saved;
       puts = s.puts;
       whole = s.whole;

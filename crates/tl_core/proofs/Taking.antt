@@ -1,5 +1,5 @@
 -- What stands for the inputs of the record that is next.
-use Rattle.std.proofs.Common.{◌≡◌, ℕ, zero, suc, ◌-◌, ◌<◌, ◌≤◌, Bool, true, false, cond, ◌&&◌, ◌||◌, if◌then◌else◌, List, [], ◌∷◌, ◌++◌, length, filter, slice_get, Option, Some, None, is_some, option_map, refl, sym, ap, ◌∙◌, subst, arith}
+use Rattle.std.proofs.Common.{◌≡◌, ℕ, zero, suc, ◌-◌, ◌<◌, ◌≤◌, Bool, true, false, ◌&&◌, ◌||◌, if◌then◌else◌, List, [], ◌∷◌, ◌++◌, length, slice_get, Option, Some, None, is_some, option_map, refl, sym, ap, ◌∙◌, subst, arith}
 use Rattle.std.specs.List.{AllByRecursion, list_all}
 use Rattle.std.proofs.lemmas.Bool.{and_from, and_parts, lt-ltb}
 use Rattle.tl_types.specs.Same.{actor_same, record_same-Decides, file_same, file_same-Decides}
@@ -18,7 +18,7 @@ use Rattle.tl_model.specs.declared.header.Header.{Header}
 use Rattle.tl_model.specs.declared.record.Record.{Record}
 use Rattle.tl_model.specs.declared.record.Record.TheVariants as kind
 use Rattle.tl_model.specs.Past.{Past, events_with, without_tickets}
-use Rattle.tl_model.specs.History.{records, record_at, id_of, is_job, inputs_of}
+use Rattle.tl_model.specs.History.{records, record_at}
 use Rattle.tl_model.specs.Actors.{OpenClaim, open_claim}
 use Rattle.tl_model.specs.Residency.{is_resident, is_available, all_available}
 use Rattle.tl_model.specs.Plan.{next}
@@ -155,7 +155,6 @@ claimed tells content header events residents spare room actor worker made s n k
       places = s.places;
       blocks = s.blocks;
       sound = s.sound;
-      narrow = s.narrow;
       saved = s.saved;
       puts = s.puts;
       whole = s.whole;

@@ -54,7 +54,6 @@ back tells content header events residents spare actor claim s is known =
       places = s.places;
       blocks = s.blocks;
       sound = s.sound;
-      narrow = s.narrow;
       saved = s.saved;
       puts = s.puts;
       whole = s.whole;

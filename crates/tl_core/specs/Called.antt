@@ -19,10 +19,23 @@ pub record MadePut : Type 0 where
   pub len : ℕ
   pub digest : Digest
 
+-- the length and the digest of the bytes of a put
+pub record PutBytes : Type 0 where
+  pub len : ℕ
+  pub digest : Digest
+
+abbrev pub bytes_put : {T : Type 0} → Command T → Option PutBytes
+bytes_put (Put path len digest ticket) = Some (record { len = len; digest = digest })
+bytes_put _ = None
+
+-- the file that is made of the bytes, where the reply accepts them
+abbrev pub made_of : Reply → Option PutBytes → Option MadePut
+made_of (Made made) (Some put) = Some (record { file = record { rec = made; out = 0 }; len = put.len; digest = put.digest })
+made_of _ _ = None
+
 -- what is saved by an accepted put
 abbrev pub put_made : {T : Type 0} → Reply → Command T → Option MadePut
-put_made (Made made) (Put path len digest ticket) = Some (record { file = record { rec = made; out = 0 }; len = len; digest = digest })
-put_made _ _ = None
+put_made reply command = made_of reply (bytes_put command)
 
 -- the events with the Saved that follows an accepted put
 abbrev pub with_saved : {T : Type 0} → Actor → Option MadePut → List (Event T) → List (Event T)

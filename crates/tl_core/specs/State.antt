@@ -12,9 +12,8 @@ use Rattle.tl_model.specs.declared.header.Header.{Header}
 use Rattle.tl_model.specs.declared.record.Record.{Record}
 use Rattle.tl_model.specs.declared.record.Record.TheVariants as kind
 use Rattle.tl_model.specs.Past.{Past, events_with, without_tickets}
-use Rattle.tl_model.specs.History.{names, records, record_at, is_job}
+use Rattle.tl_model.specs.History.{records, record_at, is_job}
 use Rattle.tl_model.specs.Actors.{OpenClaim, open_claim}
-use Rattle.tl_model.specs.Namespace.{PathOf, Node, dir, file}
 use Rattle.tl_model.specs.Values.{value}
 use Rattle.tl_model.specs.Residency.{place, saved_as}
 use Rattle.tl_model.specs.Rules.{Judge, legal_judge, can_drop, is_lawful, holds, put_of, has_digest}
@@ -54,14 +53,6 @@ abbrev pub IsSound : Record → Type 0
 IsSound (kind.Put id) = Unit {0}
 IsSound (kind.Job id core prio inputs outputs) = (core.program.inputs ≡ length inputs) × (core.program.outputs ≡ outputs)
 
--- a file's number among its record's outputs fits a byte
-abbrev pub IsNarrow : Node → Type 0
-IsNarrow dir = Unit {0}
-IsNarrow (file f pinned) = f.out < 256
-
-abbrev pub IsNarrowName : PathOf × Node → Type 0
-IsNarrowName entry = IsNarrow entry.1
-
 -- the record of this number is a job
 abbrev pub IsJobAt : Past → RecordId → Type 0
 IsJobAt past made = (r : Record) × (record_at past made ≡ Some r) × (is_job r ≡ true)
@@ -73,8 +64,6 @@ pub record Stands {T : Type 0} (tells : Bool) (content : T → List ℕ) (header
   pub places : (f : FileId) → place_in f residents ≡ place (without_tickets events) f
   pub blocks : AllByRecursion (IsHeld tells content events) residents
   pub sound : AllByRecursion IsSound (records (without_tickets events))
-  -- files are numbered among their records' outputs by one byte
-  pub narrow : AllByRecursion IsNarrowName (names (without_tickets events))
   -- just the puts are saved, each with its size and digest
   pub saved : (f : FileId) → saved_as (without_tickets events) f ≡ option_map as_saved (kept_put events f)
   -- a put's file holds the bytes of its ticket

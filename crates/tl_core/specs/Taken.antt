@@ -3,15 +3,13 @@ use Rattle.std.specs.Prelude.{◌≡◌, ℕ, Bool, true, false, ◌||◌, List,
 use Rattle.std.specs.List.{AllByRecursion}
 use Rattle.tl_types.specs.declared.actor.Actor.{Actor}
 use Rattle.tl_types.specs.declared.file_id.FileId.{FileId}
-use Rattle.tl_types.specs.declared.record_id.RecordId.{RecordId}
 use Rattle.tl_types.specs.declared.worker_id.WorkerId.{WorkerId}
 use Rattle.tl_model.specs.declared.event.Act.TheVariants.{Claim}
 use Rattle.tl_model.specs.declared.event.Event.{Event}
 use Rattle.tl_model.specs.declared.record.Record.TheVariants as kind
-use Rattle.tl_model.specs.declared.record.Record.{Record}
-use Rattle.tl_model.specs.Past.{Past, without_tickets}
-use Rattle.tl_model.specs.History.{record_at, id_of, is_job, inputs_of}
-use Rattle.tl_model.specs.Residency.{is_available, all_available, is_resident}
+use Rattle.tl_model.specs.Past.{without_tickets}
+use Rattle.tl_model.specs.History.{record_at}
+use Rattle.tl_model.specs.Residency.{is_available, is_resident}
 use Rattle.tl_model.specs.Plan.{next}
 use Rattle.tl_core.specs.declared.feeds.Taken.{Taken}
 use Rattle.tl_core.specs.declared.work.Feed.{Feed}

@@ -14,6 +14,7 @@ use crate::resident::Resident;
 use std::alloc::Global;
 use std::marker::Model;
 use tl_io::Ticket;
+use tl_ledger::Ledger;
 use tl_model::{Header, Journal};
 use tl_types::NoMemory;
 
@@ -23,9 +24,9 @@ const ROOM: usize = 50;
 
 /// The journal of all that was done, and the blocks that are in the workers' memories. Contracts see
 /// the header, the events with the newest first, and the blocks.
-#[derive(Debug, Drop)]
+#[derive(Drop)]
 pub struct Cluster<T: Ticket> {
-    journal: Journal<T>,
+    journal: Ledger<T>,
     residents: Vec<Resident>,
 }
 
@@ -51,7 +52,7 @@ impl<T: Ticket> Cluster<T> {
         ensures residents { IfOk result (λ cluster. cluster.residents ≡ []) }
     {
         Ok(Cluster {
-            journal: Journal::new(alloc, header),
+            journal: Ledger::new(alloc, header)?,
             residents: Vec::new(alloc),
         })
     }
@@ -80,7 +81,7 @@ impl<T: Ticket> Cluster<T> {
         ensures header { result.now.header ≡ self.now.header }
         ensures events { result.now.events ≡ self.now.events }
     {
-        &self.journal
+        self.journal.journal()
     }
 }
 

@@ -1,22 +1,19 @@
 //! Clients' calls of the namespace.
 
-ghost use Rattle.std.specs.Prelude.{◌≡◌, ◌+◌, ◌<◌, ◌≤◌, ◌∷◌, true, false, reverse, IfOk, OnErr};
-ghost use Rattle.std.specs.List.{AllByRecursion};
+ghost use Rattle.std.specs.Prelude.{◌≡◌, ◌+◌, ◌<◌, ◌≤◌, ◌∷◌, true, false, IfOk, OnErr};
 ghost use Rattle.tl_model.specs.Actors.{is_idle};
-ghost use Rattle.tl_model.specs.History.{calls_of, names, reply_after};
-ghost use Rattle.tl_model.specs.Past.{command_with, without_tickets};
+ghost use Rattle.tl_model.specs.Past.{command_with};
 ghost use Rattle.tl_model.specs.Rules.{put_has_its_bytes};
 ghost use Rattle.tl_core.specs.Answers.{past_of};
-ghost use Rattle.tl_core.specs.Called.{Called, IsFitting, is_free, put_made, with_saved};
-ghost use Rattle.tl_core.specs.State.{IsNarrowName};
+ghost use Rattle.tl_core.specs.Called.{Called, IsFitting, is_free, put_made, bytes_put, made_of, with_saved};
 
 use crate::cluster::{Cluster, ROOM};
 use std::alloc::Global;
 use std::marker::Model;
 use tl_io::Ticket;
-use tl_model::{Act, Command, Event, Journal, Reply};
+use tl_ledger::Ledger;
+use tl_model::{Act, Command, Event, Reply};
 use tl_types::{Actor, Digest, FileId, NoMemory};
-use tl_walk::reply;
 
 impl<T: Ticket> Cluster<T> {
     /// Makes a client's call: answers its number in the history and its reply, and records it. An
@@ -35,24 +32,29 @@ impl<T: Ticket> Cluster<T> {
         ensures ok { IfOk result (Called self.old self.new actor command) }
         ensures err { OnErr result (self.new ≡ self.old) }
     {
-        let answer = answer_to(alloc, self.journal.events(), &command)?;
-        let recorded = answer_to(alloc, self.journal.events(), &command)?;
         self.journal.reserve(ROOM)?;
-        let number = self.journal.calls();
-        record_call(&mut self.journal, actor, command, recorded);
-        Ok((number, answer))
+        let bytes = bytes_put(&command);
+        let (number, reply) = self.journal.call(alloc, actor, command)?;
+        record_saved(&mut self.journal, actor, made_of(&reply, bytes));
+        Ok((number, reply))
     }
 }
 
-// The reply that the history determines for the command.
-fn answer_to<T>(alloc: Global, events: &[Event<T>], command: &Command<T>) -> Result<Reply, NoMemory>
-    requires { AllByRecursion IsNarrowName (names (without_tickets (reverse events.now))) }
-    ensures { IfOk result (λ answer. answer ≡ reply_after (calls_of (reverse events.now)) command.now) }
-{
-    match reply(alloc, events, command)? {
-        Some(answer) => Ok(answer),
-        None => unreachable!(),
-    }
+// The length and the digest of the bytes of a put.
+#[derive(Clone, Copy)]
+struct PutBytes {
+    len: u64,
+    digest: Digest,
+}
+
+impl Model for PutBytes {
+    ghost use Rattle.tl_core.specs.Called.{PutBytes as Bytes};
+
+    ghost Value = { Bytes };
+
+    ghost view = { λ b. record { len = b.len; digest = b.digest } };
+
+    ghost inverse = { λ b. record { len = b.len; digest = b.digest } };
 }
 
 // A file that a put made, with the length and the digest of its bytes.
@@ -73,13 +75,12 @@ impl Model for MadePut {
     ghost inverse = { λ m. record { file = m.file; len = m.len; digest = m.digest } };
 }
 
-// What is saved by the command, if it is an accepted put.
-fn put_made<T>(reply: &Reply, command: &Command<T>) -> Option<MadePut>
-    ensures { result ≡ put_made reply.now command.now }
+// What a command puts, if it is a put.
+fn bytes_put<T>(command: &Command<T>) -> Option<PutBytes>
+    ensures { result ≡ bytes_put command.now }
 {
-    match (reply, command) {
-        (Reply::Made(made), Command::Put { len, digest, .. }) => Some(MadePut {
-            file: FileId { rec: *made, out: 0 },
+    match command {
+        Command::Put { len, digest, .. } => Some(PutBytes {
             len: *len,
             digest: *digest,
         }),
@@ -87,19 +88,28 @@ fn put_made<T>(reply: &Reply, command: &Command<T>) -> Option<MadePut>
     }
 }
 
-// Records a call with its reply, and the Saved that follows an accepted put.
-fn record_call<T: Ticket>(journal: &mut Journal<T>, actor: Actor, command: Command<T>, reply: Reply)
-    requires { 2 ≤ journal.old.spare }
-    ensures events { journal.new.events ≡ with_saved actor (put_made reply command) (record { actor = actor; act = Act.Call command reply } ∷ journal.old.events) }
-    ensures header { journal.new.header ≡ journal.old.header }
-    ensures spare { journal.old.spare ≤ journal.new.spare + 2 }
+// The file that is made of these bytes, where the put is accepted.
+fn made_of(reply: &Reply, bytes: Option<PutBytes>) -> Option<MadePut>
+    ensures { result ≡ made_of reply.now bytes }
 {
-    let saved = put_made(&reply, &command);
-    journal.append(Event {
-        actor,
-        act: Act::Call(command, reply),
-    });
-    if let Some(put) = saved {
+    match (reply, bytes) {
+        (Reply::Made(made), Some(put)) => Some(MadePut {
+            file: FileId { rec: *made, out: 0 },
+            len: put.len,
+            digest: put.digest,
+        }),
+        _ => None,
+    }
+}
+
+// Records the Saved that follows an accepted put.
+fn record_saved<T: Ticket>(journal: &mut Ledger<T>, actor: Actor, put: Option<MadePut>)
+    requires { 1 ≤ journal.old.spare }
+    ensures events { journal.new.events ≡ with_saved actor put journal.old.events }
+    ensures header { journal.new.header ≡ journal.old.header }
+    ensures spare { journal.old.spare ≤ journal.new.spare + 1 }
+{
+    if let Some(put) = put {
         journal.append(Event {
             actor,
             act: Act::Saved(put.file, put.len, put.digest),

@@ -12,7 +12,8 @@ use crate::look::Look;
 use crate::puts::{kept_put, saved_put};
 use crate::resident::{Resident, find, push_within};
 use tl_io::Ticket;
-use tl_model::{Act, Event, Journal};
+use tl_ledger::Ledger;
+use tl_model::{Act, Event};
 use tl_types::{Actor, Block, Digest, FileId, NoMemory, Shared, WorkerId};
 use tl_walk::{Output, open_read};
 
@@ -112,7 +113,7 @@ fn look_in_store<T: Ticket>(events: &[Event<T>], file: FileId) -> Result<Look<T>
 
 // Records that the file was loaded on the worker, and served.
 fn record_load<T: Ticket>(
-    journal: &mut Journal<T>,
+    journal: &mut Ledger<T>,
     actor: Actor,
     worker: WorkerId,
     file: FileId,

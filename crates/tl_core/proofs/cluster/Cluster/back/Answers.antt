@@ -8,8 +8,8 @@ use Rattle.tl_core.proofs.Carry.{carried}
 use Rattle.tl_core.proofs.Working.{back, room_to_end}
 use Rattle.tl_core.proofs.cluster.Cluster.back.Goals as goal
 
-pub append-requires : goal.append-requires
-append-requires g c =
+pub append-requires-clause-room : goal.append-requires-clause-room
+append-requires-clause-room g c =
     let events = c.self.inside.journal.events in
     let now = sym (ap (λ (es : List (Event _)). incarnation es c.args.work.worker) c.events.ensures) ∙ sym c.incarnation.ensures.value ∙ c.if-incarnation-work.true in
     let claim = subst (λ (s : State _). IsUnlessLost s c.args.work) (sym c.self.view_is) c.requires.claim now in

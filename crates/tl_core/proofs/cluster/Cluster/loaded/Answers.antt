@@ -17,8 +17,8 @@ use Rattle.tl_core.proofs.Loading.{brought}
 use Rattle.tl_core.proofs.Looking.{looked_have}
 use Rattle.tl_core.proofs.cluster.Cluster.loaded.Goals as goal
 
-pub append-requires : goal.append-requires
-append-requires g c =
+pub append-requires-clause-room : goal.append-requires-clause-room
+append-requires-clause-room g c =
     let events = c.self.inside.journal.events in
     let some = value_of (open_read (without_tickets events) c.args.actor)
     (ap (λ (s : State _). is_some (open_read (past_of s) c.args.actor)) c.self.view_is ∙ c.requires.reading) in
