@@ -5,7 +5,7 @@ ghost use Rattle.tl_model.specs.declared.command.Command.TheVariants.{Job};
 ghost use Rattle.tl_model.specs.declared.event.Act.{Act};
 ghost use Rattle.tl_core.specs.Answers.{past_of};
 ghost use Rattle.tl_client.specs.Pieces.{IsPut, IsSaid};
-ghost use Rattle.tl_client.specs.Rest.{IsAtRest};
+ghost use Rattle.tl_client.specs.Rest.{IsAtRest, SameOpen};
 
 use std::alloc::Global;
 use tl_core::Cluster;
@@ -27,6 +27,7 @@ pub fn put(
     requires rest { IsAtRest (past_of cluster.old) actor }
     ensures ok { IfOk result (IsPut cluster.old.events cluster.new.events actor path.now bytes.now) }
     ensures rest { IsAtRest (past_of cluster.new) actor }
+    ensures same { SameOpen (past_of cluster.old) (past_of cluster.new) }
     ensures header { cluster.new.header ≡ cluster.old.header }
 {
     let command = Command::Put {
@@ -68,6 +69,7 @@ pub fn submit(
     requires few { length outputs ≤ 255 }
     ensures ok { IfOk result (IsSaid cluster.old.events cluster.new.events actor (Job core prio inputs outputs)) }
     ensures rest { IsAtRest (past_of cluster.new) actor }
+    ensures same { SameOpen (past_of cluster.old) (past_of cluster.new) }
     ensures header { cluster.new.header ≡ cluster.old.header }
 {
     let command = Command::Job {
@@ -92,6 +94,7 @@ pub fn lose(
     ensures answer { IfOk result (λ answer. answer ≡ Answer.Lost worker) }
     ensures events { OnOk result (cluster.new.events ≡ record { actor = actor; act = Act.Lose worker } ∷ cluster.old.events) }
     ensures rest { IsAtRest (past_of cluster.new) actor }
+    ensures same { SameOpen (past_of cluster.old) (past_of cluster.new) }
     ensures header { cluster.new.header ≡ cluster.old.header }
 {
     cluster.lose(actor, worker)?;

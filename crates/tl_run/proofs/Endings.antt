@@ -2,11 +2,11 @@ use Rattle.std.proofs.Common.{◌≡◌, ℕ, ◌+◌, List, [], ◌∷◌, Opti
 use Rattle.std.specs.Prelude.{IfSome}
 use Rattle.std.proofs.KnownBytes.{Appends-nil}
 use Rattle.tl_model.specs.declared.header.Header.{Header}
-use Rattle.tl_script.specs.declared.script.Op.{Op}
-use Rattle.tl_script.specs.declared.script.BadLine.{BadLine}
+use Rattle.tl_script.specs.declared.bad_kind.BadKind.{BadKind}
+use Rattle.tl_script.specs.declared.script.Line.{Line}
 use Rattle.tl_run.specs.declared.status.Status.{Status}
 use Rattle.tl_run.specs.declared.status.Status.TheVariants.{Done, BadWords, BadScript, ReadFault, WriteFault, NoMemory, TooLong}
-use Rattle.tl_script.specs.Script.{IsScript, IsRefused, SayAll, IsFirstBad}
+use Rattle.tl_script.specs.Script.{IsScript, IsRefused}
 use Rattle.tl_run.specs.Alone.{Supply, Held, Kept, kept_with, Plays, Answers, Refuses, Wrote, WroteAnswer, Ends, EndsWith, Finishes}
 use Rattle.tl_core.specs.State.{State}
 use Rattle.tl_run.specs.Status.{code_of}
@@ -60,18 +60,6 @@ ends_as before after kept sink sink' status ended text answer (inr (inr memory))
 pub nothing_written : (before after : Supply) (sink : Held) → Ends before after None sink sink NoMemory
 nothing_written before after sink = (refl, (None, record { status = NoMemory; text = []; answer = refl; front = (0, Appends-nil sink.bytes) }))
 
-none_bad : (lines : List (List ℕ)) (ops : List Op) (n at : ℕ) → SayAll lines ops → IsFirstBad n lines at → ⊥
-none_bad [] ops n at say bad = bad
-none_bad (line ∷ lines) [] n at say bad = say
-none_bad (line ∷ lines) (op ∷ ops) n at say (inl later) = none_bad lines ops (n + 1) at say.1 later.1
-none_bad (line ∷ lines) (op ∷ ops) n at say (inr here) = here.0 (op, say.0)
-
--- no line of a script is refused
-pub never_refused : (lines : List (List ℕ)) (header : Header) (ops : List Op) (at : ℕ) (kind : BadLine) → IsScript lines header ops → IsRefused lines at kind → ⊥
-never_refused [] header ops at kind script refused = script
-never_refused (line ∷ lines) header ops at kind script (inl later) = none_bad lines ops 2 at script.2 later.1
-never_refused (line ∷ lines) header ops at kind script (inr here) = here.0 (header, script.0, script.1)
-
 if_some : {X : Type 0} (o : Option X) (P : X → Type 0) → ((x : X) → o ≡ Some x → P x) → IfSome o P
 if_some None P f = tt
 if_some (Some x) P f = f x refl
@@ -116,13 +104,15 @@ refused-text : (before after : Supply) (kept : Kept) (sink sink' : Held) → Wro
 refused-text before after None sink sink' left = (left.text, left.answer)
 refused-text before after (Some kept) sink sink' left = absurd left.answer
 
--- a script that is told isn't refused
-pub accepts : (before after : Supply) (kept : Kept) (sink sink' : Held) (code : ℕ) → EndsWith before after kept sink sink' code
-    → IfSome before.left (λ bytes. (header : Header) (ops : List Op) → IsScript (lines_of bytes) header ops → code ≢ 3)
-accepts before after kept sink sink' code e = if_some before.left _ (λ bytes told header ops script three.
+-- a script that is told isn't refused, where no script is
+pub accepts : (before after : Supply) (kept : Kept) (sink sink' : Held) (code : ℕ)
+    → ((texts : List (List ℕ)) (header : Header) (lines : List Line) (at : ℕ) (kind : BadKind) → IsScript texts header lines → ¬ IsRefused texts at kind)
+    → EndsWith before after kept sink sink' code
+    → IfSome before.left (λ bytes. (header : Header) (lines : List Line) → IsScript (lines_of bytes) header lines → code ≢ 3)
+accepts before after kept sink sink' code never e = if_some before.left _ (λ bytes told header lines script three.
     not_three e.status (λ bad.
     let left : WroteAnswer before after kept sink sink' BadScript = subst (Ends before after kept sink sink') bad e.ends in
     let refused = (refused-text before after kept sink sink' left).1 in
     let same : bytes ≡ refused.bytes = subst (λ o. IfSome o (λ b. b ≡ refused.bytes)) told refused.input.all.1 in
-    never_refused (lines_of refused.bytes) header ops refused.line refused.kind (subst (λ b. IsScript (lines_of b) header ops) same script) refused.refused)
+    never (lines_of refused.bytes) header lines refused.line refused.kind (subst (λ b. IsScript (lines_of b) header lines) same script) refused.refused)
     (sym e.code_is ∙ three))

@@ -4,9 +4,9 @@ use Rattle.std.specs.Global.{Global}
 use Rattle.std.specs.Io.KnownBytes.{Appends}
 use Rattle.tl_io.specs.Counts.{Rises}
 use Rattle.tl_model.specs.declared.header.Header.{Header}
-use Rattle.tl_script.specs.declared.script.Op.{Op}
-use Rattle.tl_script.specs.declared.script.BadLine.{BadLine}
-use Rattle.tl_script.specs.declared.script.BadLine.TheVariants as bad
+use Rattle.tl_script.specs.declared.bad_kind.BadKind.{BadKind}
+use Rattle.tl_script.specs.declared.script.Line.{Line}
+use Rattle.tl_script.specs.BadKinds.{bad_number}
 use Rattle.tl_run.specs.declared.status.Status.{Status}
 use Rattle.tl_run.specs.declared.status.Status.TheVariants.{Done, BadWords, BadScript, ReadFault, WriteFault, NoMemory, TooLong}
 use Rattle.tl_run.specs.declared.alone.Stop.{Stop}
@@ -39,13 +39,8 @@ pub record IsInput (before after : Supply) (bytes : List ℕ) : Type 0 where
   pub count : RisesBy before.given after.given (length bytes)
   pub short : length bytes ≤ input_limit
 
--- the number of a kind of refusal
-abbrev pub kind_number : BadLine → ℕ
-kind_number bad.Header = 1
-kind_number bad.Command = 3
-
-abbrev pub refusal_text : ℕ → BadLine → List ℕ
-refusal_text line kind = codes "script line " ++ (decimal line ++ (codes " kind " ++ (decimal (kind_number kind) ++ codes "\n")))
+abbrev pub refusal_text : ℕ → BadKind → List ℕ
+refusal_text line kind = codes "script line " ++ (decimal line ++ (codes " kind " ++ (decimal (bad_number kind) ++ codes "\n")))
 
 -- a cluster that a run keeps, or none
 abbrev pub Kept : Type 0
@@ -55,16 +50,16 @@ Kept = Option (State (List ℕ))
 -- printed of them
 pub record Plays (before after : Supply) (kept : State (List ℕ)) (text : List ℕ) : Type 0 where
   pub bytes : List ℕ
-  pub ops : List Op
+  pub lines : List Line
   pub input : IsInput before after bytes
-  pub script : IsScript (lines_of bytes) kept.header ops
-  pub played : PlaysOut kept.header ops kept.events text
+  pub script : IsScript (lines_of bytes) kept.header lines
+  pub played : PlaysOut kept.header lines kept.events text
 
 -- the input spells no script, and the text names its first refused line
 pub record Refuses (before after : Supply) (text : List ℕ) : Type 0 where
   pub bytes : List ℕ
   pub line : ℕ
-  pub kind : BadLine
+  pub kind : BadKind
   pub input : IsInput before after bytes
   pub refused : IsRefused (lines_of bytes) line kind
   pub printed : text ≡ refusal_text line kind
@@ -129,7 +124,7 @@ pub record EndsWith (before after : Supply) (kept : Kept) (sink sink' : Held) (c
 
 -- no such script stands in the input, where told
 abbrev pub IsNoScript : Supply → Type 0
-IsNoScript before = IfSome before.left (λ bytes. (header : Header) (ops : List Op) → IsScript (lines_of bytes) header ops → ⊥)
+IsNoScript before = IfSome before.left (λ bytes. (header : Header) (lines : List Line) → IsScript (lines_of bytes) header lines → ⊥)
 
 -- why there is no transcript
 abbrev pub StopsFor : Supply → Supply → Stop → Type 0

@@ -1,46 +1,77 @@
 -- What the lines of a script leave in the journal, and what is printed of them.
-use Rattle.std.specs.Prelude.{◌≡◌, ℕ, true, List, [], ◌∷◌, ◌++◌, reverse, Ok}
+use Rattle.std.specs.Prelude.{◌≡◌, ◌≤◌, ◌%◌, ℕ, true, List, [], ◌∷◌, ◌++◌, reverse, Ok}
 use Rattle.tl_types.specs.declared.actor.Actor.{Actor}
 use Rattle.tl_types.specs.declared.worker_id.WorkerId.{WorkerId}
 use Rattle.tl_model.specs.declared.answer.Answer.{Answer}
 use Rattle.tl_model.specs.declared.answer.Answer.TheVariants as answer
+use Rattle.tl_model.specs.declared.command.Command.{Command}
 use Rattle.tl_model.specs.declared.command.Command.TheVariants as command
+use Rattle.tl_model.specs.declared.command.Form.{Form}
 use Rattle.tl_model.specs.declared.command.Form.TheVariants as form
 use Rattle.tl_model.specs.declared.event.Act.TheVariants as act
 use Rattle.tl_model.specs.declared.header.Header.{Header}
 use Rattle.tl_model.specs.History.{calls_of, reply_after}
 use Rattle.tl_model.specs.Rules.{holds, is_lawful}
 use Rattle.tl_core.specs.State.{undropped_judge}
-use Rattle.tl_client.specs.Pieces.{Events, told, IsSaid, IsPut, IsRead}
+use Rattle.tl_client.specs.Pieces.{Events, told, IsSaid, IsPut, IsRead, IsTried, IsWorked}
 use Rattle.tl_report.specs.Words.{transcript_line}
+use Rattle.tl_script.specs.declared.script.Line.{Line}
 use Rattle.tl_script.specs.declared.script.Op.{Op}
-use Rattle.tl_script.specs.declared.script.Op.TheVariants.{Put, Job, Cat, Lose}
+use Rattle.tl_script.specs.declared.script.Op.TheVariants.{Put, Job, Read, Delete, Mkdir, Rename, Pin, Unpin, List as ListNames, Stat, Lose, Work}
+use Rattle.tl_script.specs.Places.{client_limit}
+use Rattle.tl_script.specs.Commands.{IsOp}
 
--- the client of every line, and its worker
-abbrev pub client : Actor
-client = record { 0 = 0 }
+-- the actor of a client
+abbrev pub client : ℕ → Actor
+client c = record { 0 = c }
 
-abbrev pub worker : WorkerId
-worker = record { 0 = 0 }
+-- the worker on which a client's reads run what they need
+abbrev pub worker_of : Header → ℕ → WorkerId
+worker_of header c = record { 0 = c % header.workers }
 
--- what a line leaves in the journal, and what the client is answered
-abbrev pub IsPiece : Events → Events → Op → Answer → Type 0
-IsPiece before after (Put path text) said = IsPut before after client path text said
-IsPiece before after (Job core prio inputs outputs) said = IsSaid before after client (command.Job core prio inputs outputs) said
-IsPiece before after (Cat prio path) said =
-    IsRead before after client worker (command.Read path prio form.Cat) (reply_after (calls_of before) (command.Read path prio form.Cat)) said
-IsPiece before after (Lose lost) said =
-    (said ≡ answer.Lost lost) × (after ≡ record { actor = client; act = act.Lose lost } ∷ before)
+-- a client's command, as a script of the header may have it
+abbrev pub IsLine : Header → Line → Type 0
+IsLine header line = (line.client ≤ client_limit) × IsOp header line.op
+
+-- a read waits for its file, or tries once
+abbrev pub IsReadAs : Events → Events → Actor → WorkerId → List (List ℕ) → ℕ → Form → Answer → Type 0
+IsReadAs before after actor worker path prio form.Cat said =
+    IsRead before after actor worker (command.Read path prio form.Cat) (reply_after (calls_of before) (command.Read path prio form.Cat)) said
+IsReadAs before after actor worker path prio form.Sum said =
+    IsRead before after actor worker (command.Read path prio form.Sum) (reply_after (calls_of before) (command.Read path prio form.Sum)) said
+IsReadAs before after actor worker path prio form.Try said =
+    IsTried before after actor worker (command.Read path prio form.Try) (reply_after (calls_of before) (command.Read path prio form.Try)) said
+
+-- what a client's command leaves in the journal, and what the client is answered
+abbrev pub IsPiece : Header → Events → Events → ℕ → Op → Answer → Type 0
+IsPiece header before after c (Put path text) said = IsPut before after (client c) path text said
+IsPiece header before after c (Job core prio inputs outputs) said = IsSaid before after (client c) (command.Job core prio inputs outputs) said
+IsPiece header before after c (Read path prio form) said = IsReadAs before after (client c) (worker_of header c) path prio form said
+IsPiece header before after c (Delete path) said = IsSaid before after (client c) (command.Delete path) said
+IsPiece header before after c (Mkdir path) said = IsSaid before after (client c) (command.Mkdir path) said
+IsPiece header before after c (Rename from to) said = IsSaid before after (client c) (command.Rename from to) said
+IsPiece header before after c (Pin path) said = IsSaid before after (client c) (command.Pin path) said
+IsPiece header before after c (Unpin path) said = IsSaid before after (client c) (command.Unpin path) said
+IsPiece header before after c (ListNames path) said = IsSaid before after (client c) (command.List path) said
+IsPiece header before after c (Stat path) said = IsSaid before after (client c) (command.Stat path) said
+IsPiece header before after c (Lose lost) said =
+    (said ≡ answer.Lost lost) × (after ≡ record { actor = client c; act = act.Lose lost } ∷ before)
+IsPiece header before after c (Work at n) said = IsWorked before after (client c) at n said
+
+-- how the answer of a command is printed
+abbrev pub form_of : Op → Form
+form_of (Read path prio form) = form
+form_of op = form.Cat
 
 -- these lines were done one after another, the last first, from an empty journal on; one line was printed of each
-abbrev pub Played : List Op → Events → List ℕ → Type 0
-Played [] events text = (events ≡ []) × (text ≡ [])
-Played (op ∷ earlier) events text =
-    (before : Events) × (printed : List ℕ) × (said : Answer) × Played earlier before printed
-    × IsPiece before events op said × (text ≡ printed ++ transcript_line client.0 (Ok said) form.Cat)
+abbrev pub Played : Header → List Line → Events → List ℕ → Type 0
+Played header [] events text = (events ≡ []) × (text ≡ [])
+Played header (line ∷ earlier) events text =
+    (before : Events) × (printed : List ℕ) × (said : Answer) × Played header earlier before printed
+    × IsPiece header before events line.client line.op said × (text ≡ printed ++ transcript_line line.client (Ok said) (form_of line.op))
 
 -- the lines were done in order, and left a journal that is lawful, and legal but for what is said of drops
-pub record PlaysOut (header : Header) (ops : List Op) (events : Events) (text : List ℕ) : Type 0 where
-  pub played : Played (reverse ops) events text
+pub record PlaysOut (header : Header) (lines : List Line) (events : Events) (text : List ℕ) : Type 0 where
+  pub played : Played header (reverse lines) events text
   pub lawful : is_lawful header events ≡ true
   pub legal : holds (undropped_judge header) header (told events) ≡ true

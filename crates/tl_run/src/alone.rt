@@ -2,10 +2,10 @@
 
 ghost use Rattle.std.specs.Prelude.{◌≡◌, ◌++◌, ◌≢◌, List, ℕ, Some, None, false, vec_len, IfOk, IfSome, MatchResult, OnOk};
 ghost use Rattle.tl_model.specs.declared.header.Header.{Header};
-ghost use Rattle.tl_script.specs.declared.script.Op.{Op};
+ghost use Rattle.tl_script.specs.declared.script.Line.{Line};
 ghost use Rattle.tl_script.specs.Lines.{lines_of};
 ghost use Rattle.tl_script.specs.Script.{IsScript};
-ghost use Rattle.tl_run.specs.Alone.{Supply, Held, Plays, Ends, EndsWith, StopsFor, Finishes, refusal_text, kind_number, kept_with};
+ghost use Rattle.tl_run.specs.Alone.{Supply, Held, Plays, Ends, EndsWith, StopsFor, Finishes, refusal_text, kept_with};
 
 use crate::play::{Finished, play};
 use crate::reading::{ReadError, read_all};
@@ -14,7 +14,8 @@ use crate::writing::write_all;
 use std::alloc::Global;
 use tl_core::Cluster;
 use tl_io::{Depot, MemTicket, Sink, SinkError, Source, Ticket};
-use tl_script::{BadLine, ScriptError, parse};
+use tl_script::laws::a_script_is_not_refused;
+use tl_script::{BadKind, ScriptError, parse};
 use tl_text::print_number;
 use tl_types::NoMemory;
 
@@ -22,7 +23,7 @@ use tl_types::NoMemory;
 #[derive(Clone, Copy, Debug, PartialEq, Eq)]
 pub enum Stop {
     /// The first line that is refused.
-    BadScript { line: u64, kind: BadLine },
+    BadScript { line: u64, kind: BadKind },
     /// The source met a fault.
     ReadFault,
     /// The input is longer than it may be.
@@ -70,9 +71,10 @@ pub fn alone_call<I: Source, O: Sink, D: Depot>(
 
     // A script is never refused.
     ensures accepted { IfSome (I.left input.old) (λ bytes.
-        (header : Header) (ops : List Op) → IsScript (lines_of bytes) header ops → result.status ≢ 3) }
+        (header : Header) (lines : List Line) → IsScript (lines_of bytes) header lines → result.status ≢ 3) }
     ensures depots { depots.new ≡ depots.old }
 {
+    a_script_is_not_refused();
     let Ending { status, kept } = run(alloc, input, output);
     Ended {
         status: status.code(),
@@ -150,32 +152,22 @@ fn play_script<I: Source>(alloc: Global, input: &mut I) -> Result<Finished, Stop
         Err(ScriptError::Bad { line, kind }) => return Err(Stop::BadScript { line, kind }),
         Err(ScriptError::NoMemory) => return Err(Stop::NoMemory),
     };
-    let Ok(finished) = play(alloc, script.header, script.ops) else {
+    let Ok(finished) = play(alloc, script.header, script.lines) else {
         return Err(Stop::NoMemory);
     };
     Ok(finished)
 }
 
 // The text that names a refused line.
-fn refusal(alloc: Global, line: u64, kind: BadLine) -> Result<Vec<u8>, NoMemory>
+fn refusal(alloc: Global, line: u64, kind: BadKind) -> Result<Vec<u8>, NoMemory>
     ensures { IfOk result (λ text. text.items ≡ refusal_text line kind) }
 {
     let mut text = Vec::from_slice(alloc, b"script line ")?;
     print_number(&mut text, line)?;
     text.extend_from_slice(b" kind ")?;
-    print_number(&mut text, kind_number(kind))?;
+    print_number(&mut text, u64::from(kind.number()))?;
     text.extend_from_slice(b"\n")?;
     Ok(text)
-}
-
-// The number of a kind of refusal.
-fn kind_number(kind: BadLine) -> u64
-    ensures { result ≡ kind_number kind }
-{
-    match kind {
-        BadLine::Header => 1,
-        BadLine::Command => 3,
-    }
 }
 
 /// Writes the text of a status, and answers the status, or why not all was written.

@@ -14,7 +14,7 @@ struct Case {
     output: &'static str,
 }
 
-const CASES: [Case; 20] = [
+const CASES: [Case; 27] = [
     Case {
         name: "a put and a read",
         input: "tachyon 1 workers 1 capacity 100 hot 3\n0 put /a \"hi\"\n0 cat 0 /a",
@@ -40,16 +40,16 @@ const CASES: [Case; 20] = [
         output: "script line 1 kind 1\n",
     },
     Case {
-        name: "an empty line",
-        input: "tachyon 1 workers 1 capacity 100 hot 3\n\n",
-        status: 3,
-        output: "script line 2 kind 3\n",
+        name: "lines that are skipped",
+        input: "tachyon 1 workers 1 capacity 100 hot 3\n\n# 9 words\n0 stat /\n",
+        status: 0,
+        output: "0 0 stat dir 0\n",
     },
     Case {
         name: "an unknown command",
         input: "tachyon 1 workers 1 capacity 100 hot 3\n0 put /a \"hi\"\n0 mkdir /d\n0 nor this\n",
         status: 3,
-        output: "script line 3 kind 3\n",
+        output: "script line 4 kind 3\n",
     },
     Case {
         name: "no workers",
@@ -73,43 +73,43 @@ const CASES: [Case; 20] = [
         name: "a priority over its limit",
         input: "tachyon 1 workers 1 capacity 100 hot 3\n0 cat 8 /a\n",
         status: 3,
-        output: "script line 2 kind 3\n",
+        output: "script line 2 kind 4\n",
     },
     Case {
-        name: "another client",
-        input: "tachyon 1 workers 1 capacity 100 hot 3\n1 cat 0 /a\n",
+        name: "a client over the limit",
+        input: "tachyon 1 workers 1 capacity 100 hot 3\n8 cat 0 /a\n",
         status: 3,
-        output: "script line 2 kind 3\n",
+        output: "script line 2 kind 2\n",
     },
     Case {
-        name: "a path of two components",
-        input: "tachyon 1 workers 1 capacity 100 hot 3\n0 cat 0 /a/b\n",
-        status: 3,
-        output: "script line 2 kind 3\n",
+        name: "two clients",
+        input: "tachyon 1 workers 1 capacity 100 hot 3\n1 put /a \"x\"\n7 cat 0 /a\n1 cat 0 /a/b\n",
+        status: 0,
+        output: "0 1 made 0\n1 7 file 0.0 1 \"x\"\n2 1 notdir\n",
     },
     Case {
         name: "a component that is a dot",
         input: "tachyon 1 workers 1 capacity 100 hot 3\n0 put /. \"\"\n",
         status: 3,
-        output: "script line 2 kind 3\n",
+        output: "script line 2 kind 5\n",
     },
     Case {
         name: "a text with an escape",
-        input: "tachyon 1 workers 1 capacity 100 hot 3\n0 put /a \"\\n\"\n",
-        status: 3,
-        output: "script line 2 kind 3\n",
+        input: "tachyon 1 workers 1 capacity 100 hot 3\n0 put /a \"\\n\"\n0 cat 0 /a\n",
+        status: 0,
+        output: "0 0 made 0\n1 0 file 0.0 1 \"\\n\"\n",
     },
     Case {
         name: "a text that doesn't end",
         input: "tachyon 1 workers 1 capacity 100 hot 3\n0 put /a \"\n",
         status: 3,
-        output: "script line 2 kind 3\n",
+        output: "script line 2 kind 4\n",
     },
     Case {
         name: "a space too many",
         input: "tachyon 1 workers 1 capacity 100 hot 3\n0 put /a \"hi\" \n",
         status: 3,
-        output: "script line 2 kind 3\n",
+        output: "script line 2 kind 4\n",
     },
     Case {
         name: "a file is lost and made again",
@@ -134,6 +134,48 @@ const CASES: [Case; 20] = [
         input: "tachyon 1 workers 1 capacity 100 hot 9\n0 put /a \"x\"\n0 job 3 10 in /a out /b run (job (cat (in 0) \"1\"))\n0 job 3 10 in /b out /c run (job (cat (in 0) \"2\"))\n0 job 7 10 in /c out /d run (job (cat (in 0) \"\\n\"))\n0 cat 0 /d\n0 lose 0\n0 cat 0 /d\n",
         status: 0,
         output: "0 0 made 0\n1 0 made 1\n2 0 made 2\n3 0 made 3\n4 0 file 3.0 4 \"x12\\n\"\n- 0 lose 0\n5 0 file 3.0 4 \"x12\\n\"\n",
+    },
+    Case {
+        name: "a digest",
+        input: "tachyon 1 workers 1 capacity 100 hot 3\n0 put /e \"\"\n0 sum 0 /e\n",
+        status: 0,
+        output: "0 0 made 0\n1 0 file 0.0 0 e3b0c44298fc1c149afbf4c8996fb92427ae41e4649b934ca495991b7852b855\n",
+    },
+    Case {
+        name: "faults are read as faults",
+        input: "tachyon 1 workers 1 capacity 100 hot 9\n0 put /a \"hi\"\n0 job 3 10 in /a out /b run (job (str (num (in 0))))\n0 job 3 10 in /b out /c run (job (in 0))\n0 cat 0 /b\n0 cat 0 /c\n0 lose 0\n0 cat 0 /c\n",
+        status: 0,
+        output: "0 0 made 0\n1 0 made 1\n2 0 made 2\n3 0 failed 1.0 5\n4 0 failed 2.0 8\n- 0 lose 0\n5 0 failed 2.0 8\n",
+    },
+    Case {
+        name: "a read that does not wait",
+        input: "tachyon 1 workers 1 capacity 100 hot 9\n0 put /a \"x\"\n0 job 3 10 in /a out /b run (job (in 0))\n0 try 0 /b\n0 work 0 1\n0 try 0 /b\n0 work 0 1\n",
+        status: 0,
+        output: "0 0 made 0\n1 0 made 1\n2 0 notyet 1.0\n- 0 work 1\n3 0 file 1.0 1 \"x\"\n- 0 work 0\n",
+    },
+    Case {
+        name: "names",
+        input: "tachyon 1 workers 1 capacity 100 hot 9\n0 mkdir /d\n0 put /d/a \"x\"\n0 mkdir /d/a/b\n0 rename /d /d/e\n0 delete /d\n0 rename /d/a /b\n0 list /\n0 stat /b\n0 stat /d\n0 cat 0 /d\n0 cat 0 /d/a\n0 pin /b\n0 stat /b\n0 unpin /b\n",
+        status: 0,
+        output: "0 0 ok\n1 0 made 0\n2 0 notdir\n3 0 intoitself\n4 0 notempty\n5 0 ok\n6 0 list 2 b d/\n7 0 stat file 0.0 loose\n8 0 stat dir 0\n9 0 notfile\n10 0 nosuch\n11 0 ok\n12 0 stat file 0.0 pinned\n13 0 ok\n",
+    },
+    Case {
+        name: "several inputs and outputs",
+        input: "tachyon 1 workers 1 capacity 100 hot 9\n0 job 3 9 conf \"k\" \"v\" in out /x /y run (job (conf \"k\") \"yy\")\n0 job 3 9 in /y /x out /z run (job (cat (in 0) (in 1)))\n0 cat 0 /z\n",
+        status: 0,
+        output: "0 0 made 0\n1 0 made 1\n2 0 file 1.0 3 \"yyv\"\n",
+    },
+    Case {
+        name: "kinds that do not fit",
+        input: "tachyon 1 workers 1 capacity 100 hot 3\n0 job 3 10 in out /x run (job (str (add 1 \"x\")))\n",
+        status: 3,
+        output: "script line 2 kind 7\n",
+    },
+    Case {
+        name: "no program",
+        input: "tachyon 1 workers 1 capacity 100 hot 3\n0 job 3 10 in out /x run (job \"x\"\n",
+        status: 3,
+        output: "script line 2 kind 6\n",
     },
 ];
 
@@ -234,7 +276,7 @@ fn faults(rt: HostRuntime) -> Result<(), Fail> {
 fn input_limit(rt: HostRuntime) -> Result<(), Fail> {
     let alloc = rt.alloc();
     for (len, status, output) in [
-        (INPUT_LIMIT, 3, "script line 2 kind 3\n"),
+        (INPUT_LIMIT, 3, "script line 2 kind 8\n"),
         (INPUT_LIMIT + 1, 9, "input too long\n"),
     ] {
         let mut input = HEADER.as_bytes().to_vec(alloc)?;

@@ -2,7 +2,7 @@
 
 ghost use Rattle.std.specs.Prelude.{◌≡◌, ◌≢◌, ◌↔◌, List, ℕ, IfSome, IsTrue, vec_len};
 ghost use Rattle.tl_model.specs.declared.header.Header.{Header};
-ghost use Rattle.tl_script.specs.declared.script.Op.{Op};
+ghost use Rattle.tl_script.specs.declared.script.Line.{Line};
 ghost use Rattle.tl_script.specs.Lines.{lines_of};
 ghost use Rattle.tl_script.specs.Script.{IsScript};
 ghost use Rattle.tl_run.specs.Alone.{EndsWith, IsAlone, Kept, RefusesWords};
@@ -33,7 +33,7 @@ pub fn tachyon<I: Source, O: Sink, D: Depot>(
 
     // A script is never refused.
     ensures accepted { IsAlone words.now → IfSome (I.left input.old) (λ bytes.
-        (header : Header) (ops : List Op) → IsScript (lines_of bytes) header ops → result ≢ 3) }
+        (header : Header) (lines : List Line) → IsScript (lines_of bytes) header lines → result ≢ 3) }
 
     // Other words are refused, and nothing is read.
     ensures words { ¬ IsAlone words.now → RefusesWords

@@ -1,7 +1,12 @@
 pub mod LineLemmas
 pub mod Splits
-pub mod Numbers
-pub mod PathLemmas
-pub mod JobLines
-pub mod Commands
+pub mod WordTables
+pub mod OneToken
+pub mod Steps
+pub mod Wrong
+pub mod Sayings
+pub mod Confs
+pub mod Headers
 pub mod Unique
+pub mod Scripts
+pub mod CommandKinds

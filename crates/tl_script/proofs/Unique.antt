@@ -1,134 +1,224 @@
-use Rattle.std.proofs.Common.{◌≡◌, ℕ, ◌+◌, List, [], ◌∷◌, ◌++◌, length, refl, ap, ◌∙◌, sym, arith, codes, inl, inr, Result, Ok, Err}
+-- Nothing is said and refused, and nothing is said or refused in two ways.
+use Rattle.std.proofs.Common.{◌≡◌, ◌≢◌, ◌⊎◌, ℕ, ◌+◌, ◌<◌, ◌≤◌, ◌^◌, Bool, true, false, ◌==◌, List, [], ◌∷◌, ◌++◌, length, codes, Option, Some, None, Result, Ok, Err, refl, sym, ◌∙◌, ap, subst, inl, inr, arith}
 use Rattle.std.specs.Prelude.{decimal, IfOk, IfErr}
-use Rattle.std.specs.List.{AllByRecursion}
-use Rattle.std.proofs.lemmas.Fmt.{decimal_injective}
-use Rattle.std.proofs.lemmas.List.{append-nil, append_cancel_right}
-use Rattle.tl_types.specs.Path.{IsPath, spelled}
-use Rattle.tl_text.specs.PathText.{IsPathText}
-use Rattle.tl_text.specs.Place.{HasOneReading}
+use Rattle.tl_text.specs.Number.{IsNumber}
+use Rattle.tl_lang.specs.Conf.{Pair}
 use Rattle.tl_lang.specs.declared.job.JobSpecCore.{JobSpecCore}
 use Rattle.tl_lang.specs.declared.program.Program.{Program}
-use Rattle.tl_kind.specs.Written.{IsProgram, program_text}
+use Rattle.tl_kind.specs.Refusals.{is_digit, begins_with_digit}
+use Rattle.tl_kind.proofs.Readings.{number_begins}
 use Rattle.tl_model.specs.declared.header.Header.{Header}
+use Rattle.tl_model.specs.declared.command.Form.{Form}
+use Rattle.tl_model.specs.declared.command.Form.TheVariants as form
+use Rattle.tl_script.specs.declared.bad_kind.BadKind.{BadKind}
+use Rattle.tl_script.specs.declared.bad_kind.BadKind.TheVariants as bad
 use Rattle.tl_script.specs.declared.script.Op.{Op}
-use Rattle.tl_script.specs.declared.script.Op.TheVariants.{Put, Job, Cat, Lose}
-use Rattle.tl_script.specs.declared.script.BadLine.{BadLine}
-use Rattle.tl_script.specs.declared.script.Script.{Script}
+use Rattle.tl_script.specs.declared.script.Op.TheVariants.{Put, Job, Read, Delete, Mkdir, Rename, Pin, Unpin, List as ListNames, Stat, Lose, Work}
 use Rattle.tl_script.specs.declared.script.ScriptError.{ScriptError}
 use Rattle.tl_script.specs.declared.script.ScriptError.TheVariants.{Bad, NoMemory}
-use Rattle.tl_script.specs.Script.{IsTopPath, IsJob, IsHeader, header_text, Says, SayAll, IsScript, IsFirstBad, IsRefused, IsBadScript, Reads}
-use Rattle.tl_script.specs.Parts.{JobTexts, first_spelled, texts_of}
-use Rattle.tl_script.proofs.Numbers.{decimal_no_space}
-use Rattle.tl_script.proofs.PathLemmas.{path_no_space}
-use Rattle.tl_script.proofs.JobLines.{job_line, job_cut, one_texts}
-use Rattle.tl_script.proofs.Commands.{letter, p_is_not_j, p_is_not_c, p_is_not_l, j_is_not_c, j_is_not_l, c_is_not_l}
-use Rattle.tl_script.proofs.Splits.{same_parts}
+use Rattle.tl_script.specs.declared.word.Verb.{Verb}
+use Rattle.tl_script.specs.declared.word.Verb.TheVariants as verb_is
+use Rattle.tl_script.specs.declared.word.Mark.{Mark}
+use Rattle.tl_script.specs.declared.word.Mark.TheVariants as mark_is
+use Rattle.tl_script.specs.Tokens.{Token, a_verb, a_mark, a_number, a_path, a_text, a_program, spaced, Stands}
+use Rattle.tl_script.specs.Places.{Place, client, command, path_then, number_then, text_then, settings, key, paths_then, program_then, end, next, may_end, RefusedAs, Follows, Refused, missing, wrong, later}
+use Rattle.tl_script.specs.Commands.{verb_of_form, verb_of, arguments_of, with_conf, with_paths, IsJob, IsOp, Says, IsRefusedOp, ReadsOp}
+use Rattle.tl_script.proofs.OneToken.{one_token}
+use Rattle.tl_script.proofs.Sayings.{tokens_of, Stand, Walks, walks_op, said_stand}
 
--- a text spells one program
-abbrev pub OneProgram : Type 0
-OneProgram = (text : List ℕ) (p q : Program) → IsProgram text p → IsProgram text q → p ≡ q
+-- ---- bytes that are refused
 
-same_path : HasOneReading IsPathText → (p q : List (List ℕ)) → IsPath p → IsPath q → spelled p ≡ spelled q → p ≡ q
-same_path one p q h k e =
-    (one (spelled p) p q [] []
-    (record { spelled_so = sym (append-nil (spelled p)); path = h; ended = tt })
-    (record { spelled_so = e ∙ sym (append-nil (spelled q)); path = k; ended = tt })).0
+tails : (a b : ℕ) (s t : List ℕ) → a ∷ s ≡ b ∷ t → s ≡ t
+tails a b s t e = cc
 
-same_paths : HasOneReading IsPathText → (ps qs : List (List (List ℕ))) → length ps ≡ 1 → length qs ≡ 1 → AllByRecursion IsTopPath ps → AllByRecursion IsTopPath qs → first_spelled ps ≡ first_spelled qs → ps ≡ qs
-same_paths one [] qs a b h k e = absurd (omega (arith, a))
-same_paths one (p ∷ []) [] a b h k e = absurd (omega (arith, b))
-same_paths one (p ∷ []) (q ∷ []) a b h k e = ap (λ (x : List (List ℕ)). x ∷ []) (same_path one p q h.0.0 k.0.0 e)
-same_paths one (p ∷ []) (q ∷ r ∷ rest) a b h k e = absurd (omega (arith, b))
-same_paths one (p ∷ r ∷ rest) qs a b h k e = absurd (omega (arith, a))
+empty_or_not : (bytes : List ℕ) (b : ℕ) (bs : List ℕ) → bytes ≡ [] → bytes ≡ b ∷ bs → ⊥
+empty_or_not bytes b bs e f = let no : b ∷ bs ≡ [] = sym f ∙ e in absurd (cc)
 
-same_core : OneProgram → (core other : JobSpecCore) (prio prio' : ℕ) (ins ins' outs outs' : List (List (List ℕ))) → IsJob core prio ins outs → IsJob other prio' ins' outs' → decimal core.fuel ≡ decimal other.fuel
-    → program_text core.program.program ≡ program_text other.program.program → core ≡ other
-same_core one core other prio prio' ins ins' outs outs' h k fuel e =
-    let program = one (program_text core.program.program) core.program.program other.program.program (record { spelled = refl; limits = h.program }) (record { spelled = e; limits = k.program }) in
-    let inputs = h.for_inputs ∙ h.one_input ∙ sym (k.for_inputs ∙ k.one_input) in
-    let outputs = h.for_outputs ∙ h.one_output ∙ sym (k.for_outputs ∙ k.one_output) in
-    let conf = h.no_conf ∙ sym k.no_conf in
-    let fuel_is = decimal_injective core.fuel other.fuel (omega (arith, h.fuel)) (omega (arith, k.fuel)) fuel in
-    λ j. record { program = record { program = program j; inputs = inputs j; outputs = outputs j }; conf = conf j; fuel = fuel_is j }
+some_or_none : (o : Option Place) (p : Place) → o ≡ None → o ≡ Some p → ⊥
+some_or_none o p e f = let no : Some p ≡ None = sym f ∙ e in absurd (cc)
 
--- no line says two commands
-pub same_command : OneProgram → HasOneReading IsPathText → (line : List ℕ) (op other : Op) → Says line op → Says line other → op ≡ other
-same_command program one line (Put p t) (Put q s) h k =
-    let parts = same_parts (codes "0 put ") (codes "\"") 32 line (spelled p) (t ++ codes "\"") (spelled q) (s ++ codes "\"") (path_no_space p h.command.0) (path_no_space q k.command.0) h.spelled_so k.spelled_so in
-    let path = same_path one p q h.command.0.0 k.command.0.0 parts.0 in
-    let text = append_cancel_right t s (codes "\"") parts.1 in
-    λ j. Put (path j) (text j)
-same_command program one line (Put p t) (Job d m i' o') h k = absurd (p_is_not_j (ap letter (sym h.spelled_so ∙ k.spelled_so)))
-same_command program one line (Put p t) (Cat m q) h k = absurd (p_is_not_c (ap letter (sym h.spelled_so ∙ k.spelled_so)))
-same_command program one line (Put p t) (Lose v) h k = absurd (p_is_not_l (ap letter (sym h.spelled_so ∙ k.spelled_so)))
-same_command program one line (Job c n i o) (Put q s) h k = absurd (p_is_not_j (ap letter (sym k.spelled_so ∙ h.spelled_so)))
-same_command program one line (Job c n i o) (Job d m i' o') h k =
-    let texts = one_texts (texts_of c n i o) (texts_of d m i' o') (job_cut c n i o h.command) (job_cut d m i' o' k.command)
-    (sym (job_line c n i o h.command.one_input h.command.one_output) ∙ sym h.spelled_so ∙ k.spelled_so ∙ job_line d m i' o' k.command.one_input k.command.one_output) in
-    let core = same_core program c d n m i i' o o' h.command k.command (ap (λ (u : JobTexts). u.fuel) texts) (ap (λ (u : JobTexts). u.program) texts) in
-    let prio = decimal_injective n m (omega (arith, h.command.priority)) (omega (arith, k.command.priority)) (ap (λ (u : JobTexts). u.prio) texts) in
-    let inputs = same_paths one i i' h.command.one_input k.command.one_input h.command.input_paths k.command.input_paths (ap (λ (u : JobTexts). u.input) texts) in
-    let outputs = same_paths one o o' h.command.one_output k.command.one_output h.command.output_paths k.command.output_paths (ap (λ (u : JobTexts). u.output) texts) in
-    λ j. Job (core j) (prio j) (inputs j) (outputs j)
-same_command program one line (Job c n i o) (Cat m q) h k = absurd (j_is_not_c (ap letter (sym h.spelled_so ∙ k.spelled_so)))
-same_command program one line (Job c n i o) (Lose v) h k = absurd (j_is_not_l (ap letter (sym h.spelled_so ∙ k.spelled_so)))
-same_command program one line (Cat n p) (Put q s) h k = absurd (p_is_not_c (ap letter (sym k.spelled_so ∙ h.spelled_so)))
-same_command program one line (Cat n p) (Job d m i' o') h k = absurd (j_is_not_c (ap letter (sym k.spelled_so ∙ h.spelled_so)))
-same_command program one line (Cat n p) (Cat m q) h k =
-    let parts = same_parts (codes "0 cat ") [] 32 line (decimal n) (spelled p) (decimal m) (spelled q) (decimal_no_space n (omega (arith, h.command.0))) (decimal_no_space m (omega (arith, k.command.0))) h.spelled_so k.spelled_so in
-    let prio = decimal_injective n m (omega (arith, h.command.0)) (omega (arith, k.command.0)) parts.0 in
-    let path = same_path one p q h.command.1.0 k.command.1.0 parts.1 in
-    λ j. Cat (prio j) (path j)
-same_command program one line (Cat n p) (Lose v) h k = absurd (c_is_not_l (ap letter (sym h.spelled_so ∙ k.spelled_so)))
-same_command program one line (Lose w) (Put q s) h k = absurd (p_is_not_l (ap letter (sym k.spelled_so ∙ h.spelled_so)))
-same_command program one line (Lose w) (Job d m i' o') h k = absurd (j_is_not_l (ap letter (sym k.spelled_so ∙ h.spelled_so)))
-same_command program one line (Lose w) (Cat m q) h k = absurd (c_is_not_l (ap letter (sym k.spelled_so ∙ h.spelled_so)))
-same_command program one line (Lose w) (Lose v) h k = let worker = h.command ∙ sym k.command in λ j. Lose (record { 0 = worker j })
+some_same : (o : Option Place) (p q : Place) → o ≡ Some p → o ≡ Some q → p ≡ q
+some_same o p q e f = let both : Some p ≡ Some q = sym e ∙ f in cc
 
--- a line says one command
-abbrev pub OneCommand : Type 0
-OneCommand = (line : List ℕ) (op other : Op) → Says line op → Says line other → op ≡ other
+-- two tokens that follow are the same
+pub one_follows : (bytes : List ℕ) (t u : Token) (rest more : List ℕ) → Follows bytes t rest → Follows bytes u more → (t ≡ u) × (rest ≡ more)
+one_follows bytes t u rest more f g =
+    let front : g.0 ≡ f.0 = tails 0x20 0x20 g.0 f.0 (sym g.1 ∙ f.1) in
+    one_token f.0 t u rest more f.2 (subst (λ (b : List ℕ). Stands b u more) front g.2)
 
-same_ops : OneCommand → (lines : List (List ℕ)) (ops others : List Op) → SayAll lines ops → SayAll lines others → ops ≡ others
-same_ops one [] [] [] h k = refl
-same_ops one [] [] (other ∷ others) h k = absurd k
-same_ops one [] (op ∷ ops) others h k = absurd h
-same_ops one (line ∷ lines) [] others h k = absurd h
-same_ops one (line ∷ lines) (op ∷ ops) [] h k = absurd k
-same_ops one (line ∷ lines) (op ∷ ops) (other ∷ others) h k =
-    let first = one line op other h.0 k.0 in
-    let later = same_ops one lines ops others h.1 k.1 in
-    λ j. first j ∷ later j
+-- what is nothing of the place does not follow
+nothing_follows : (place : Place) (bytes front : List ℕ) (t : Token) (rest : List ℕ) (after : Place) → bytes ≡ 0x20 ∷ front → ((token : Token) (rest : List ℕ) → Stands front token rest → next place token ≡ None) → Follows bytes t rest → next place t ≡ Some after → ⊥
+nothing_follows place bytes front t rest after e nothing f may =
+    let same : f.0 ≡ front = tails 0x20 0x20 f.0 front (sym f.1 ∙ e) in
+    some_or_none (next place t) after (nothing t rest (subst (λ (b : List ℕ). Stands b t rest) same f.2)) may
 
-same_header : (h k : Header) → IsHeader h → IsHeader k → header_text h ≡ header_text k → h ≡ k
-same_header h k a b e =
-    let parts = same_parts (codes "tachyon 1 workers 1 capacity ") (codes "hot ") 32 (header_text h) (decimal h.capacity) (decimal h.hot) (decimal k.capacity) (decimal k.hot)
-    (decimal_no_space h.capacity (omega (arith, a.capacity))) (decimal_no_space k.capacity (omega (arith, b.capacity))) refl e in
-    let workers = a.workers ∙ sym b.workers in
-    let capacity = decimal_injective h.capacity k.capacity (omega (arith, a.capacity)) (omega (arith, b.capacity)) parts.0 in
-    let hot = decimal_injective h.hot k.hot (omega (arith, a.hot)) (omega (arith, b.hot)) parts.1 in
-    λ j. record { workers = workers j; capacity = capacity j; hot = hot j }
+ends_or_not : (b : Bool) → b ≡ true → b ≡ false → ⊥
+ends_or_not b e f = cc
 
--- no lines are two scripts
-pub same_script : OneCommand → (lines : List (List ℕ)) (header header' : Header) (ops ops' : List Op) → IsScript lines header ops → IsScript lines header' ops' → (header ≡ header') × (ops ≡ ops')
-same_script one [] header header' ops ops' h k = absurd h
-same_script one (line ∷ lines) header header' ops ops' h k = (same_header header header' h.0 k.0 (sym h.1 ∙ k.1), same_ops one lines ops ops' h.2 k.2)
+-- tokens that may stand after one another up to the end are not refused
+pub never : {place : Place} {bytes : List ℕ} {kind : BadKind} → Refused place bytes kind → (tokens : List Token) → Stand bytes tokens → Walks place tokens → ⊥
+never {place} {bytes} (missing none unclosed is) [] stand walks = ends_or_not (may_end place) walks unclosed
+never {place} {bytes} (missing none unclosed is) (t ∷ ts) stand walks = empty_or_not bytes 0x20 stand.1.0 none stand.1.1
+never {place} {bytes} (wrong front e nothing how) [] stand walks = empty_or_not bytes 0x20 front stand e
+never {place} {bytes} (wrong front e nothing how) (t ∷ ts) stand walks = nothing_follows place bytes front t stand.0 walks.0 e nothing stand.1 walks.1
+never {place} {bytes} (later token rest follows may refused) [] stand walks = empty_or_not bytes 0x20 follows.0 stand follows.1
+never {place} {bytes} (later {after = after} token rest follows may refused) (t ∷ ts) stand walks =
+    let same = one_follows bytes t token stand.0 rest stand.1 follows in
+    let place_same : walks.0 ≡ after = some_same (next place token) walks.0 after (subst (λ (u : Token). next place u ≡ Some walks.0) same.0 walks.1) may in
+    never refused ts (subst (λ (r : List ℕ). Stand r ts) same.1 stand.2) (subst (λ (p : Place). Walks p ts) place_same walks.2)
 
-none_bad : (lines : List (List ℕ)) (ops : List Op) (n at : ℕ) → SayAll lines ops → IsFirstBad n lines at → ⊥
-none_bad [] ops n at say bad = bad
-none_bad (line ∷ lines) [] n at say bad = say
-none_bad (line ∷ lines) (op ∷ ops) n at say (inl later) = none_bad lines ops (n + 1) at say.1 later.1
-none_bad (line ∷ lines) (op ∷ ops) n at say (inr here) = here.0 (op, say.0)
+kinds_in_list : (A : Type 0) (k k' : BadKind) → (A × (k ≡ bad.Path)) ⊎ ((¬ A) × (k ≡ bad.Argument)) → (A × (k' ≡ bad.Path)) ⊎ ((¬ A) × (k' ≡ bad.Argument)) → k ≡ k'
+kinds_in_list A k k' (inl a) (inl b) = a.1 ∙ sym b.1
+kinds_in_list A k k' (inl a) (inr b) = absurd (b.0 a.0)
+kinds_in_list A k k' (inr a) (inl b) = absurd (a.0 b.0)
+kinds_in_list A k k' (inr a) (inr b) = a.1 ∙ sym b.1
 
--- no line of a script is refused
-pub never_refused : (lines : List (List ℕ)) (header : Header) (ops : List Op) (at : ℕ) (kind : BadLine) → IsScript lines header ops → IsRefused lines at kind → ⊥
-never_refused [] header ops at kind script refused = script
-never_refused (line ∷ lines) header ops at kind script (inl later) = none_bad lines ops 2 at script.2 later.1
-never_refused (line ∷ lines) header ops at kind script (inr here) = here.0 (header, script.0, script.1)
+kinds_of_program : (A : Type 0) (k k' : BadKind) → (A × (k ≡ bad.Kinds)) ⊎ ((¬ A) × (k ≡ bad.Program)) → (A × (k' ≡ bad.Kinds)) ⊎ ((¬ A) × (k' ≡ bad.Program)) → k ≡ k'
+kinds_of_program A k k' (inl a) (inl b) = a.1 ∙ sym b.1
+kinds_of_program A k k' (inl a) (inr b) = absurd (b.0 a.0)
+kinds_of_program A k k' (inr a) (inl b) = absurd (a.0 b.0)
+kinds_of_program A k k' (inr a) (inr b) = a.1 ∙ sym b.1
 
--- the one script is read
-pub reads_script : OneCommand → (lines : List (List ℕ)) (r : Result Script ScriptError) → IfOk r (λ script. IsScript lines script.header script.ops.items) → IfErr r (IsBadScript lines)
-    → (header : Header) (ops : List Op) → IsScript lines header ops → Reads r header ops
-reads_script one lines (Ok script) read refused header ops h = same_script one lines script.header header script.ops.items ops read h
-reads_script one lines (Err (Bad at kind)) read refused header ops h = never_refused lines header ops at kind h refused
-reads_script one lines (Err NoMemory) read refused header ops h = tt
+kinds_same : (place : Place) (bytes : List ℕ) (k k' : BadKind) → RefusedAs place bytes k → RefusedAs place bytes k' → k ≡ k'
+kinds_same (client header) bytes k k' a b = a ∙ sym b
+kinds_same (command header) bytes k k' a b = a ∙ sym b
+kinds_same (path_then place) bytes k k' a b = a ∙ sym b
+kinds_same (number_then low below place) bytes k k' a b = a ∙ sym b
+kinds_same (text_then place) bytes k k' a b = a ∙ sym b
+kinds_same (settings keys) bytes k k' a b = a ∙ sym b
+kinds_same (key keys) bytes k k' a b = a ∙ sym b
+kinds_same (paths_then limit least count word place) bytes k k' a b = kinds_in_list _ k k' a b
+kinds_same (program_then reads makes) bytes k k' a b = kinds_of_program _ k k' a b
+kinds_same end bytes k k' a b = a ∙ sym b
+
+-- nothing is refused as two kinds
+pub one_kind_stands : {place : Place} {bytes : List ℕ} {kind : BadKind} → Refused place bytes kind → (other : BadKind) → Refused place bytes other → kind ≡ other
+one_kind_stands (missing none unclosed is) other (missing none' unclosed' is') = is ∙ sym is'
+one_kind_stands {place} {bytes} (missing none unclosed is) other (wrong front e nothing how) = absurd (empty_or_not bytes 0x20 front none e)
+one_kind_stands {place} {bytes} (missing none unclosed is) other (later token rest follows may refused) = absurd (empty_or_not bytes 0x20 follows.0 none follows.1)
+one_kind_stands {place} {bytes} (wrong front e nothing how) other (missing none unclosed is) = absurd (empty_or_not bytes 0x20 front none e)
+one_kind_stands {place} {bytes} {kind} (wrong front e nothing how) other (wrong front' e' nothing' how') =
+    let same : front' ≡ front = tails 0x20 0x20 front' front (sym e' ∙ e) in
+    kinds_same place front kind other how (subst (λ (b : List ℕ). RefusedAs place b other) same how')
+one_kind_stands {place} {bytes} (wrong front e nothing how) other (later {after = after} token rest follows may refused) = absurd (nothing_follows place bytes front token rest after e nothing follows may)
+one_kind_stands {place} {bytes} (later token rest follows may refused) other (missing none unclosed is) = absurd (empty_or_not bytes 0x20 follows.0 none follows.1)
+one_kind_stands {place} {bytes} (later {after = after} token rest follows may refused) other (wrong front e nothing how) = absurd (nothing_follows place bytes front token rest after e nothing follows may)
+one_kind_stands {place} {bytes} (later {after = after} token rest follows may refused) other (later {after = after'} token' rest' follows' may' refused') =
+    let same = one_follows bytes token' token rest' rest follows' follows in
+    let place_same : after' ≡ after = some_same (next place token) after' after (subst (λ (u : Token). next place u ≡ Some after') same.0 may') may in
+    one_kind_stands refused other (subst (λ (p : Place). Refused p rest other) place_same (subst (λ (r : List ℕ). Refused after' r other) same.1 refused'))
+
+-- ---- bytes are the tokens of one command
+
+pub one_tokens : (bytes : List ℕ) (ts us : List Token) → Stand bytes ts → Stand bytes us → ts ≡ us
+one_tokens bytes [] [] g h = refl
+one_tokens bytes [] (u ∷ us) g h = absurd (empty_or_not bytes 0x20 h.1.0 g h.1.1)
+one_tokens bytes (t ∷ ts) [] g h = absurd (empty_or_not bytes 0x20 g.1.0 h g.1.1)
+one_tokens bytes (t ∷ ts) (u ∷ us) g h =
+    let same = one_follows bytes t u g.0 h.0 g.1 h.1 in
+    let first : t ≡ u = same.0 in
+    let others : ts ≡ us = one_tokens h.0 ts us (subst (λ (r : List ℕ). Stand r ts) same.1 g.2) h.2 in
+    λ j. first j ∷ others j
+
+same_conf : (ps qs : List Pair) (more other : List Token) → with_conf ps (a_mark mark_is.In ∷ more) ≡ with_conf qs (a_mark mark_is.In ∷ other) → (ps ≡ qs) × (more ≡ other)
+same_conf [] [] more other e = (refl, cc)
+same_conf [] (q ∷ qs) more other e = absurd (cc)
+same_conf (p ∷ ps) [] more other e = absurd (cc)
+same_conf (p ∷ ps) (q ∷ qs) more other e =
+    let k : p.0 ≡ q.0 = cc in
+    let v : p.1 ≡ q.1 = cc in
+    let left : with_conf ps (a_mark mark_is.In ∷ more) ≡ with_conf qs (a_mark mark_is.In ∷ other) = cc in
+    let rest = same_conf ps qs more other left in
+    (λ j. (k j, v j) ∷ rest.0 j, rest.1)
+
+same_paths : (m : Mark) (ps qs : List (List (List ℕ))) (more other : List Token) → with_paths ps (a_mark m ∷ more) ≡ with_paths qs (a_mark m ∷ other) → (ps ≡ qs) × (more ≡ other)
+same_paths m [] [] more other e = (refl, cc)
+same_paths m [] (q ∷ qs) more other e = absurd (cc)
+same_paths m (p ∷ ps) [] more other e = absurd (cc)
+same_paths m (p ∷ ps) (q ∷ qs) more other e =
+    let first : p ≡ q = cc in
+    let left : with_paths ps (a_mark m ∷ more) ≡ with_paths qs (a_mark m ∷ other) = cc in
+    let rest = same_paths m ps qs more other left in
+    (λ j. first j ∷ rest.0 j, rest.1)
+
+same_job : (core other : JobSpecCore) (prio prio' : ℕ) (ins ins' outs outs' : List (List (List ℕ))) → IsJob core prio ins outs → IsJob other prio' ins' outs'
+    → tokens_of (Job core prio ins outs) ≡ tokens_of (Job other prio' ins' outs') → Job core prio ins outs ≡ Job other prio' ins' outs'
+same_job core other prio prio' ins ins' outs outs' h k e =
+    let prio_is : prio ≡ prio' = cc in
+    let fuel_is : core.fuel ≡ other.fuel = cc in
+    let after_fuel : with_conf core.conf (a_mark mark_is.In ∷ with_paths ins (a_mark mark_is.Out ∷ with_paths outs (a_mark mark_is.Run ∷ a_program core.program.program ∷ [])))
+    ≡ with_conf other.conf (a_mark mark_is.In ∷ with_paths ins' (a_mark mark_is.Out ∷ with_paths outs' (a_mark mark_is.Run ∷ a_program other.program.program ∷ []))) = cc in
+    let conf = same_conf core.conf other.conf (with_paths ins (a_mark mark_is.Out ∷ with_paths outs (a_mark mark_is.Run ∷ a_program core.program.program ∷ []))) (with_paths ins' (a_mark mark_is.Out ∷ with_paths outs' (a_mark mark_is.Run ∷ a_program other.program.program ∷ []))) after_fuel in
+    let reads = same_paths mark_is.Out ins ins' (with_paths outs (a_mark mark_is.Run ∷ a_program core.program.program ∷ [])) (with_paths outs' (a_mark mark_is.Run ∷ a_program other.program.program ∷ [])) conf.1 in
+    let makes = same_paths mark_is.Run outs outs' (a_program core.program.program ∷ []) (a_program other.program.program ∷ []) reads.1 in
+    let last : ◌≡◌ {A = List Token} (a_program core.program.program ∷ []) (a_program other.program.program ∷ []) = makes.1 in
+    let program : core.program.program ≡ other.program.program = cc in
+    let ins_count = h.for_inputs ∙ ap length reads.0 ∙ sym k.for_inputs in
+    let outs_count = h.for_outputs ∙ ap length makes.0 ∙ sym k.for_outputs in
+    λ j. Job (record { program = record { program = program j; inputs = ins_count j; outputs = outs_count j }; conf = conf.0 j; fuel = fuel_is j }) (prio_is j) (reads.0 j) (makes.0 j)
+
+same_form : (f g : Form) → verb_of_form f ≡ verb_of_form g → f ≡ g
+same_form form.Cat form.Cat e = refl
+same_form form.Sum form.Sum e = refl
+same_form form.Try form.Try e = refl
+same_form f g e = absurd (cc)
+
+-- the word, with one for all reads
+shape : Op → Verb
+shape (Read at prio f) = verb_is.Cat
+shape op = verb_of op
+
+reads_as_one : Verb → Verb
+reads_as_one verb_is.Sum = verb_is.Cat
+reads_as_one verb_is.Try = verb_is.Cat
+reads_as_one v = v
+
+form_shape : (f : Form) → verb_is.Cat ≡ reads_as_one (verb_of_form f)
+unfolding reads_as_one
+form_shape form.Cat = refl
+form_shape form.Sum = refl
+form_shape form.Try = refl
+
+shape_of : (op : Op) → shape op ≡ reads_as_one (verb_of op)
+unfolding shape reads_as_one
+shape_of (Read at prio f) = form_shape f
+shape_of op = refl
+
+same_shape : (op other : Op) → tokens_of op ≡ tokens_of other → shape op ≡ shape other
+same_shape op other e = let word : verb_of op ≡ verb_of other = cc in shape_of op ∙ ap reads_as_one word ∙ sym (shape_of other)
+
+pub same_op : (header : Header) (op other : Op) → IsOp header op → IsOp header other → tokens_of op ≡ tokens_of other → op ≡ other
+unfolding shape
+same_op header (Put at s) (Put at' s') h k e = let a : at ≡ at' = cc in let b : s ≡ s' = cc in λ j. Put (a j) (b j)
+same_op header (Job core prio ins outs) (Job other prio' ins' outs') h k e = same_job core other prio prio' ins ins' outs outs' h k e
+same_op header (Read at prio f) (Read at' prio' f') h k e =
+    let a : at ≡ at' = cc in
+    let p : prio ≡ prio' = cc in
+    let word : verb_of_form f ≡ verb_of_form f' = cc in
+    let g = same_form f f' word in
+    λ j. Read (a j) (p j) (g j)
+same_op header (Delete at) (Delete at') h k e = let a : at ≡ at' = cc in ap Delete a
+same_op header (Mkdir at) (Mkdir at') h k e = let a : at ≡ at' = cc in ap Mkdir a
+same_op header (Rename from to) (Rename from' to') h k e = let a : from ≡ from' = cc in let b : to ≡ to' = cc in λ j. Rename (a j) (b j)
+same_op header (Pin at) (Pin at') h k e = let a : at ≡ at' = cc in ap Pin a
+same_op header (Unpin at) (Unpin at') h k e = let a : at ≡ at' = cc in ap Unpin a
+same_op header (ListNames at) (ListNames at') h k e = let a : at ≡ at' = cc in ap ListNames a
+same_op header (Stat at) (Stat at') h k e = let a : at ≡ at' = cc in ap Stat a
+same_op header (Lose w) (Lose w') h k e = let a : w.0 ≡ w'.0 = cc in λ j. Lose (record { 0 = a j })
+same_op header (Work w n) (Work w' n') h k e = let a : w.0 ≡ w'.0 = cc in let b : n ≡ n' = cc in λ j. Work (record { 0 = a j }) (b j)
+same_op header op other h k e = let apart = same_shape op other e in absurd (cc)
+
+-- no bytes say two commands
+pub same_command : (header : Header) (bytes : List ℕ) (op other : Op) → header.workers < 2 ^ 8 → Says header bytes op → Says header bytes other → op ≡ other
+same_command header bytes op other w h k =
+    same_op header op other h.command k.command (one_tokens (0x20 ∷ bytes) (tokens_of op) (tokens_of other) (said_stand header bytes op w h) (said_stand header bytes other w k))
+
+-- no command is refused
+pub never_said : (header : Header) (bytes : List ℕ) (kind : BadKind) (op : Op) → header.workers < 2 ^ 8 → Refused (command header) (0x20 ∷ bytes) kind → Says header bytes op → ⊥
+never_said header bytes kind op w refused h = never refused (tokens_of op) (said_stand header bytes op w h) (walks_op header op h.command)
+
+-- the one command is read
+pub reads_op : (header : Header) (bytes : List ℕ) → header.workers < 2 ^ 8 → (r : Result Op ScriptError) → IfOk r (Says header bytes) → IfErr r (IsRefusedOp header bytes) → (op : Op) → Says header bytes op → ReadsOp r op
+reads_op header bytes w (Ok found) read refused op h = same_command header bytes found op w read h
+reads_op header bytes w (Err (Bad line how)) read refused op h = never_said header bytes how op w refused.1 h
+reads_op header bytes w (Err NoMemory) read refused op h = tt

@@ -1,4 +1,8 @@
+pub mod BadKinds
 pub mod Lines
+pub mod Words
+pub mod Tokens
+pub mod Places
+pub mod Commands
+pub mod Reading
 pub mod Script
-pub mod Parts
-pub mod JobParts

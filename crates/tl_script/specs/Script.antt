@@ -1,125 +1,129 @@
--- The script: a header, and then a command a line.
-use Rattle.std.specs.Prelude.{ℕ, ◌≡◌, ◌+◌, ◌≤◌, ◌⊎◌, List, [], ◌∷◌, ◌++◌, length, codes, decimal, Bool, ◌&&◌, not, nat_le, ◌==◌, IsTrue, Result, Ok, Err}
-use Rattle.std.specs.List.{AllByRecursion, list_all}
-use Rattle.tl_types.specs.Path.{IsPath, spelled}
-use Rattle.tl_lang.specs.declared.job.JobSpecCore.{JobSpecCore}
-use Rattle.tl_lang.specs.Kinds.{KindsHold}
-use Rattle.tl_kind.specs.Written.{IsWithin, program_text}
+-- The script: a header, and then lines that are skipped or say a client's command.
+use Rattle.std.specs.Prelude.{ℕ, ◌≡◌, ◌+◌, ◌<◌, ◌≤◌, ◌⊎◌, Bool, true, false, ◌==◌, List, [], ◌∷◌, ◌++◌, length, codes, decimal, Result, Ok, Err}
 use Rattle.tl_model.specs.declared.header.Header.{Header}
+use Rattle.tl_script.specs.declared.bad_kind.BadKind.{BadKind}
+use Rattle.tl_script.specs.declared.bad_kind.BadKind.TheVariants as bad
 use Rattle.tl_script.specs.declared.script.Op.{Op}
-use Rattle.tl_script.specs.declared.script.Op.TheVariants.{Put, Job, Cat, Lose}
-use Rattle.tl_script.specs.declared.script.BadLine.{BadLine}
-use Rattle.tl_script.specs.declared.script.BadLine.TheVariants.{Header as bad_header, Command}
+use Rattle.tl_script.specs.declared.script.Line.{Line}
 use Rattle.tl_script.specs.declared.script.Script.{Script}
 use Rattle.tl_script.specs.declared.script.ScriptError.{ScriptError}
 use Rattle.tl_script.specs.declared.script.ScriptError.TheVariants.{Bad, NoMemory}
+use Rattle.tl_script.specs.Tokens.{a_verb, spaced}
+use Rattle.tl_script.specs.Places.{client, client_limit, Refused}
+use Rattle.tl_script.specs.Commands.{IsOp, verb_of, arguments_of}
 
--- a byte that stands for itself in a quoted text
-abbrev pub is_plain : ℕ → Bool
-is_plain b = nat_le 0x20 b && nat_le b 0x7E && not (b == 0x22) && not (b == 0x5C)
+-- ---- the header
 
--- one component
-abbrev pub IsTopPath : List (List ℕ) → Type 0
-IsTopPath path = IsPath path × (length path ≡ 1)
+abbrev pub line_limit : ℕ
+line_limit = 65536
 
--- a header of one worker
+abbrev pub worker_limit : ℕ
+worker_limit = 1
+
+abbrev pub capacity_limit : ℕ
+capacity_limit = 268435456
+
+abbrev pub hot_limit : ℕ
+hot_limit = 4294967295
+
 pub record IsHeader (h : Header) : Type 0 where
-  pub workers : h.workers ≡ 1
+  pub some_workers : 1 ≤ h.workers
+  pub workers : h.workers ≤ worker_limit
   pub some_capacity : 1 ≤ h.capacity
-  pub capacity : h.capacity ≤ 268435456
+  pub capacity : h.capacity ≤ capacity_limit
   pub some_hot : 1 ≤ h.hot
-  pub hot : h.hot ≤ 4294967295
+  pub hot : h.hot ≤ hot_limit
 
 abbrev pub header_text : Header → List ℕ
-header_text h = codes "tachyon 1 workers 1 capacity " ++ (decimal h.capacity ++ (codes " hot " ++ decimal h.hot))
+header_text h =
+    codes "tachyon 1 workers " ++ (decimal h.workers ++ (codes " capacity " ++ (decimal h.capacity ++ (codes " hot " ++ decimal h.hot))))
 
--- a job of one input and one output, with no configuration, whose program is within the limits of
--- its text and keeps the kind rules
-pub record IsJob (core : JobSpecCore) (prio : ℕ) (inputs outputs : List (List (List ℕ))) : Type 0 where
-  pub priority : prio ≤ 7
-  pub some_fuel : 1 ≤ core.fuel
-  pub fuel : core.fuel ≤ 16777216
-  pub no_conf : core.conf ≡ []
-  pub one_input : length inputs ≡ 1
-  pub one_output : length outputs ≡ 1
-  pub input_paths : AllByRecursion IsTopPath inputs
-  pub output_paths : AllByRecursion IsTopPath outputs
-  pub program : IsWithin core.program.program
-  pub for_inputs : core.program.inputs ≡ length inputs
-  pub for_outputs : core.program.outputs ≡ length outputs
-  pub kinds : KindsHold core.program.program core.program.inputs core.program.outputs
+-- the line says the header
+pub record HeaderSays (line : List ℕ) (h : Header) : Type 0 where
+  pub header : IsHeader h
+  pub spelled_so : line ≡ header_text h
+  pub short : length line ≤ line_limit
 
--- a command that has a line
-abbrev pub IsOp : Op → Type 0
-IsOp (Put path text) = IsTopPath path × IsTrue (list_all is_plain text)
-IsOp (Job core prio inputs outputs) = IsJob core prio inputs outputs
-IsOp (Cat prio path) = (prio ≤ 7) × IsTopPath path
-IsOp (Lose worker) = worker.0 ≡ 0
+-- ---- the other lines
 
--- a space and each path, and then more
-abbrev pub with_paths : List (List (List ℕ)) → List ℕ → List ℕ
-with_paths [] more = more
-with_paths (path ∷ paths) more = 0x20 ∷ (spelled path ++ with_paths paths more)
+abbrev pub is_skipped : List ℕ → Bool
+is_skipped [] = true
+is_skipped (byte ∷ bytes) = byte == 0x23
 
-abbrev pub job_text : JobSpecCore → ℕ → List (List (List ℕ)) → List (List (List ℕ)) → List ℕ
-job_text core prio inputs outputs =
-    codes "0 job " ++ (decimal prio ++ (codes " " ++ (decimal core.fuel ++ (codes " in" ++ with_paths inputs (codes " out" ++ with_paths outputs
-    (codes " run " ++ program_text core.program.program))))))
+-- an empty line, or a comment
+pub record IsSkipped (line : List ℕ) : Type 0 where
+  pub skipped : is_skipped line ≡ true
+  pub short : length line ≤ line_limit
 
--- the line of client 0 that says the command
-abbrev pub line_text : Op → List ℕ
-line_text (Put path text) = codes "0 put " ++ (spelled path ++ (codes " \"" ++ (text ++ codes "\"")))
-line_text (Job core prio inputs outputs) = job_text core prio inputs outputs
-line_text (Cat prio path) = codes "0 cat " ++ (decimal prio ++ (codes " " ++ spelled path))
-line_text (Lose worker) = codes "0 lose " ++ decimal worker.0
+-- the client, a space and the command
+abbrev pub line_text : ℕ → Op → List ℕ
+line_text c op = decimal c ++ spaced (a_verb (verb_of op) ∷ arguments_of op)
 
--- the line says the command, in at most 65,536 bytes
-pub record Says (line : List ℕ) (op : Op) : Type 0 where
-  pub command : IsOp op
-  pub spelled_so : line ≡ line_text op
-  pub short : length line ≤ 65536
+-- the line says this client's command
+pub record LineSays (header : Header) (line : List ℕ) (c : ℕ) (op : Op) : Type 0 where
+  pub client : c ≤ client_limit
+  pub command : IsOp header op
+  pub spelled_so : line ≡ line_text c op
+  pub short : length line ≤ line_limit
 
-abbrev pub IsHeaderLine : List ℕ → Type 0
-IsHeaderLine line = (h : Header) × IsHeader h × (line ≡ header_text h)
+-- line number n says what stands in the script's list
+abbrev pub SaysEntry : Header → ℕ → List ℕ → Line → Type 0
+SaysEntry header n line entry = (entry.number ≡ n) × LineSays header line entry.client entry.op
 
-abbrev pub IsCommandLine : List ℕ → Type 0
-IsCommandLine line = (op : Op) × Says line op
+-- the lines from number n on are skipped, or say these commands in order
+abbrev pub SayAll : Header → ℕ → List (List ℕ) → List Line → Type 0
+SayAll header n [] [] = Unit {0}
+SayAll header n [] (entry ∷ entries) = ⊥
+SayAll header n (line ∷ lines) [] = IsSkipped line × SayAll header (n + 1) lines []
+SayAll header n (line ∷ lines) (entry ∷ entries) =
+    (IsSkipped line × SayAll header (n + 1) lines (entry ∷ entries)) ⊎ (SaysEntry header n line entry × SayAll header (n + 1) lines entries)
 
--- each line says its command
-abbrev pub SayAll : List (List ℕ) → List Op → Type 0
-SayAll [] [] = Unit {0}
-SayAll (line ∷ lines) (op ∷ ops) = Says line op × SayAll lines ops
-SayAll [] (op ∷ ops) = ⊥
-SayAll (line ∷ lines) [] = ⊥
+-- the lines are a script: the header, and then the commands
+abbrev pub IsScript : List (List ℕ) → Header → List Line → Type 0
+IsScript [] header entries = ⊥
+IsScript (line ∷ lines) header entries = HeaderSays line header × SayAll header 2 lines entries
 
--- the lines are a script: the header, and a command a line
-abbrev pub IsScript : List (List ℕ) → Header → List Op → Type 0
-IsScript [] header ops = ⊥
-IsScript (line ∷ lines) header ops = IsHeader header × (line ≡ header_text header) × SayAll lines ops
+-- ---- refusals
 
--- of the lines from number n on, line `at` is the first that is no command
-abbrev pub IsFirstBad : ℕ → List (List ℕ) → ℕ → Type 0
-IsFirstBad n [] at = ⊥
-IsFirstBad n (line ∷ lines) at = (IsCommandLine line × IsFirstBad (n + 1) lines at) ⊎ ((¬ IsCommandLine line) × (at ≡ n))
+abbrev pub IsTooLong : List ℕ → BadKind → Type 0
+IsTooLong line kind = (line_limit < length line) × (kind ≡ bad.LineTooLong)
 
--- line `at` is the first that is refused, as what it is no form of
-abbrev pub IsRefused : List (List ℕ) → ℕ → BadLine → Type 0
-IsRefused [] at kind = (at ≡ 1) × (kind ≡ bad_header)
-IsRefused (line ∷ lines) at kind =
-    (IsHeaderLine line × IsFirstBad 2 lines at × (kind ≡ Command)) ⊎ ((¬ IsHeaderLine line) × (at ≡ 1) × (kind ≡ bad_header))
+-- the line is refused as the first: it is too long, or says no header
+abbrev pub RefusedHeader : List ℕ → BadKind → Type 0
+RefusedHeader line kind = IsTooLong line kind ⊎ ((length line ≤ line_limit) × ((h : Header) → ¬ HeaderSays line h) × (kind ≡ bad.Header))
 
--- why the lines from the second on are no commands: the first bad one, or want of memory
-abbrev pub IsBadBody : List (List ℕ) → ScriptError → Type 0
-IsBadBody lines (Bad at kind) = IsFirstBad 2 lines at × (kind ≡ Command)
-IsBadBody lines NoMemory = Unit {0}
+-- the line is refused as a later one: it is too long, or neither skipped nor without a wrong token; a space is read
+-- before each token, so also before the client
+abbrev pub RefusedLine : Header → List ℕ → BadKind → Type 0
+RefusedLine header line kind = IsTooLong line kind ⊎ ((length line ≤ line_limit) × (is_skipped line ≡ false) × Refused (client header) (0x20 ∷ line) kind)
+
+-- the line is skipped, or says a command
+abbrev pub IsRight : Header → List ℕ → Type 0
+IsRight header line = IsSkipped line ⊎ ((c : ℕ) × (op : Op) × LineSays header line c op)
+
+-- of the lines from number n on, line `at` is the first that is refused, as this kind
+abbrev pub IsFirstBad : Header → ℕ → List (List ℕ) → ℕ → BadKind → Type 0
+IsFirstBad header n [] at how = ⊥
+IsFirstBad header n (line ∷ lines) at kind =
+    (RefusedLine header line kind × (at ≡ n)) ⊎ (IsRight header line × IsFirstBad header (n + 1) lines at kind)
+
+-- line `at` is the first that is refused, as this kind; where there is no line, the header is missing
+abbrev pub IsRefused : List (List ℕ) → ℕ → BadKind → Type 0
+IsRefused [] at kind = (at ≡ 1) × (kind ≡ bad.Header)
+IsRefused (line ∷ lines) at kind = (RefusedHeader line kind × (at ≡ 1)) ⊎ ((h : Header) × HeaderSays line h × IsFirstBad h 2 lines at kind)
+
+-- why the lines from the second on are not read: the first that is refused, or want of memory
+abbrev pub IsBadBody : Header → List (List ℕ) → ScriptError → Type 0
+IsBadBody header lines (Bad at how) = IsFirstBad header 2 lines at how
+IsBadBody header lines NoMemory = Unit {0}
 
 -- why the lines are no script: the first refused one, or want of memory
 abbrev pub IsBadScript : List (List ℕ) → ScriptError → Type 0
-IsBadScript lines (Bad at kind) = IsRefused lines at kind
+IsBadScript lines (Bad at how) = IsRefused lines at how
 IsBadScript lines NoMemory = Unit {0}
 
 -- the script is read, unless memory ran out
-abbrev pub Reads : Result Script ScriptError → Header → List Op → Type 0
-Reads (Ok script) header ops = (script.header ≡ header) × (script.ops.items ≡ ops)
-Reads (Err (Bad at kind)) header ops = ⊥
-Reads (Err NoMemory) header ops = Unit {0}
+abbrev pub Reads : Result Script ScriptError → Header → List Line → Type 0
+Reads (Ok script) header entries = (script.header ≡ header) × (script.lines.items ≡ entries)
+Reads (Err (Bad at how)) header entries = ⊥
+Reads (Err NoMemory) header entries = Unit {0}

@@ -1,14 +1,18 @@
-//! The script as text: a header and then a command a line, read exactly.
+//! The script as text: a header, and then a client's command a line, read exactly.
 #![tactic(auto)]
 
-mod fields;
+mod bad_kind;
+mod command;
+mod header;
 mod job;
 pub mod laws;
+mod line;
 mod parsing;
 mod script;
-#[cfg(test)]
-mod tests;
-mod text;
+mod stop;
+mod token;
+mod word;
 
-pub use parsing::parse;
-pub use script::{BadLine, Op, Script, ScriptError};
+pub use bad_kind::BadKind;
+pub use parsing::{parse, parse_op};
+pub use script::{Line, Op, Script, ScriptError};

@@ -1,5 +1,5 @@
-use Rattle.tl_run.proofs.Scripts.{script-commands}
+use Rattle.tl_run.proofs.Scripts.{script-lines, script-workers}
 use Rattle.tl_run.proofs.alone.play_script.Goals as goal
 
-pub play-requires-clause-ops : goal.play-requires-clause-ops
-play-requires-clause-ops g c = script-commands _ c.in-Ok-parse.script.header c.in-Ok-parse.script.ops.items c.in-Ok-parse.ensures.read
+pub play-requires-clause-lines : goal.play-requires-clause-lines
+play-requires-clause-lines g c = script-lines _ c.in-Ok-parse.script.header c.in-Ok-parse.script.lines.items c.in-Ok-parse.ensures.read

@@ -1,6 +1,0 @@
-use Rattle.std.proofs.Common.{sym, ◌∙◌}
-use Rattle.tl_script.proofs.Commands.{said_at_end}
-use Rattle.tl_script.proofs.parsing.ops_of.Goals as goal
-
-pub returns-clause-read : goal.returns-clause-read
-returns-clause-read c = said_at_end c.args.text.now c.loop-rest.rest.now c.loop-rest.ops.items (sym c.is_empty.ensures ∙ c.loop-rest-test.false) c.loop-rest.invariant.read

@@ -1,0 +1,65 @@
+//! The header of a script.
+
+ghost use Rattle.std.specs.Prelude.{◌≡◌, ◌≢◌, ◌++◌, ◌<◌, ◌≤◌, ℕ, List, length, codes, decimal, IfSome, IfNone};
+ghost use Rattle.tl_text.specs.Number.{BeginsWithNoDigit};
+ghost use Rattle.tl_model.specs.declared.header.Header.{Header};
+ghost use Rattle.tl_script.specs.Script.{IsHeader, header_text};
+
+use tl_model::Header;
+use tl_text::read_number;
+
+/// The greatest number of workers.
+const WORKER_LIMIT: u64 = 1;
+
+/// The greatest capacity of a worker, in bytes.
+const CAPACITY_LIMIT: u64 = 268_435_456;
+
+/// The greatest number of reads that a header may ask of a hot file.
+const HOT_LIMIT: u64 = 4_294_967_295;
+
+// What follows `prefix`, where the text begins with it.
+fn after<'a>(text: &'a [u8], prefix: &[u8]) -> Option<&'a [u8]>
+    ensures found { IfSome result (λ rest. text.now ≡ prefix.now ++ rest.now) }
+    ensures none { IfNone result ((rest : List ℕ) → text.now ≢ prefix.now ++ rest) }
+{
+    text.strip_prefix(prefix)
+}
+
+// What stands behind the words and a number from 1 to the limit, and the number.
+fn number_after<'a>(text: &'a [u8], words: &[u8], limit: u64) -> Option<(u64, &'a [u8])>
+    ensures found { IfSome result (λ r. text.now ≡ words.now ++ (decimal r.0 ++ r.1.now)) }
+    ensures within { IfSome result (λ r. (1 ≤ r.0) × (r.0 ≤ limit)) }
+    ensures ended { IfSome result (λ r. BeginsWithNoDigit r.1.now) }
+    ensures none { IfNone result ((n : ℕ) (rest : List ℕ) → 1 ≤ n → n ≤ limit → BeginsWithNoDigit rest → text.now ≢ words.now ++ (decimal n ++ rest)) }
+{
+    let numeral = after(text, words)?;
+    let Ok((number, end)) = read_number(numeral, 0) else {
+        return None;
+    };
+    if number < 1 {
+        return None;
+    }
+    if limit < number {
+        return None;
+    }
+    let (_, rest) = numeral.split_at(end);
+    Some((number, rest))
+}
+
+/// The header that the line says.
+pub(crate) fn header_said(line: &[u8]) -> Option<Header>
+    ensures found { IfSome result (λ h. IsHeader h × (line.now ≡ header_text h)) }
+    ensures none { IfNone result ((h : Header) → IsHeader h → line.now ≢ header_text h) }
+{
+    let (workers, rest) = number_after(line, b"tachyon 1 workers ", WORKER_LIMIT)?;
+    let (capacity, rest) = number_after(rest, b" capacity ", CAPACITY_LIMIT)?;
+    let (hot, rest) = number_after(rest, b" hot ", HOT_LIMIT)?;
+    if !rest.is_empty() {
+        return None;
+    }
+    Some(Header {
+        workers: workers as u8,
+        capacity,
+        hot: hot as u32,
+    })
+}
