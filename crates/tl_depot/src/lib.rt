@@ -4,8 +4,6 @@
 
 mod folder_depot;
 mod folder_ticket;
-#[cfg(test)]
-mod tests;
 
 pub use folder_depot::FolderDepot;
 pub use folder_ticket::FolderTicket;

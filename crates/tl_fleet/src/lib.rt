@@ -4,8 +4,6 @@
 
 mod fleet;
 mod laws;
-#[cfg(test)]
-mod tests;
 mod worker;
 
 pub use fleet::Fleet;

@@ -22,6 +22,3 @@ pub use kinds::check;
 pub use lang_error::{LangError, LangErrorKind};
 pub use parsing::parse;
 pub use printing::print;
-
-#[cfg(test)]
-mod tests;

@@ -3,7 +3,5 @@
 
 mod copying;
 mod ledger;
-#[cfg(test)]
-mod tests;
 
 pub use ledger::Ledger;

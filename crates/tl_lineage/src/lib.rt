@@ -4,8 +4,6 @@
 mod graph;
 mod laws;
 mod slot;
-#[cfg(test)]
-mod tests;
 
 pub use graph::{Graph, RECORDS_LIMIT};
 pub use laws::{

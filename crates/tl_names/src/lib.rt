@@ -12,8 +12,6 @@ mod moves;
 mod names;
 mod pinning;
 mod pins;
-#[cfg(test)]
-mod tests;
 
 pub use found::Found;
 pub use names::Names;

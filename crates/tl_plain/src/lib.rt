@@ -14,8 +14,6 @@ mod same;
 mod seen;
 mod tables;
 mod tasks;
-#[cfg(test)]
-mod tests;
 
 pub use edge::{edge as edge_of, next_save};
 pub use eviction::{Sizes, files_on, first_to_drop, is_settled, used, victim};

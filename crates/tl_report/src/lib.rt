@@ -4,8 +4,6 @@
 mod line;
 mod print;
 mod tally;
-#[cfg(test)]
-mod tests;
 
 pub use line::transcript_line;
 pub use tally::summary;

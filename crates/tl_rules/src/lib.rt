@@ -9,8 +9,6 @@ mod owed;
 mod replies;
 mod rules;
 mod same;
-#[cfg(test)]
-mod tests;
 
 pub use fault::{fault_of, is_quiet};
 pub use judge::Judge;

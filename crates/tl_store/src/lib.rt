@@ -4,8 +4,6 @@
 
 mod excepted;
 mod store;
-#[cfg(test)]
-mod tests;
 
 pub use excepted::Excepted;
 pub use store::Store;

@@ -19,6 +19,3 @@ pub use number::{one_number, print_number, read_number};
 pub use path::{one_path, print_path, read_path};
 pub use quoted::{one_quoted, print_quoted, read_quoted};
 pub use signed::{one_signed, print_signed, read_signed};
-
-#[cfg(test)]
-mod tests;

@@ -2,8 +2,6 @@
 #![tactic(auto)]
 
 mod loading;
-#[cfg(test)]
-mod tests;
 mod vault;
 
 pub use loading::{LoadError, load};

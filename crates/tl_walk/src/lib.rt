@@ -17,8 +17,6 @@ mod residency;
 mod same;
 mod saved;
 mod tally;
-#[cfg(test)]
-mod tests;
 
 pub use actors::{is_being_saved, is_idle, is_read, is_running, open_claim, open_read, open_save};
 pub use names::{Name, Node, names as names_of};

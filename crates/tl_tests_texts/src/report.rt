@@ -1,7 +1,7 @@
-use super::*;
 use std::alloc::Global;
 use std::test::Fail;
 use tl_model::{Answer, ClientError, Counted, Damage, Entry, Form, Reply, Status};
+use tl_report::*;
 use tl_types::{Block, Bytes, Digest, FileId, Items, Outcome, RecordId, Shared, WorkerId};
 
 const FIRST: FileId = FileId {

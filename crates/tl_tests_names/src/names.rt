@@ -1,8 +1,8 @@
-use crate::{Found, Names};
 use std::test::Fail;
 use tl_io::MemTicket;
 use tl_lang::{Checked, Conf, Expr, Items as Exprs, JobSpecCore, Program};
 use tl_model::{Command, Entry, Form, Reply, Status};
+use tl_names::{Found, Names};
 use tl_types::{Bytes, Digest, FileId, Items, Path, Prio, RecordId, Shared};
 
 const COMING_AND_GOING: &str = "\
@@ -228,34 +228,50 @@ fn ask_one(
     Ok(names.apply(alloc, &command, next)?)
 }
 
+// Asks a job of these inputs and outputs.
+fn ask_job(
+    rt: &HostRuntime,
+    names: &mut Names,
+    inputs: &str,
+    outputs: &str,
+    next: RecordId,
+) -> Result<Reply, Fail> {
+    let inputs = paths_of(rt, inputs)?;
+    let outputs = paths_of(rt, outputs)?;
+    if outputs.len() > 255 {
+        return Err("too many outputs".into());
+    }
+    let command: Command<MemTicket> = Command::Job {
+        core: any_job(rt)?,
+        prio: Prio::new(3).ok_or("a priority")?,
+        inputs: Items::from_vec(inputs),
+        outputs: Items::from_vec(outputs),
+    };
+    Ok(names.apply(rt.alloc(), &command, next)?)
+}
+
+// Asks that a name gets another path.
+fn ask_rename(
+    rt: &HostRuntime,
+    names: &mut Names,
+    from: &str,
+    to: &str,
+    next: RecordId,
+) -> Result<Reply, Fail> {
+    let command: Command<MemTicket> = Command::Rename {
+        from: path_of(rt, from.trim())?,
+        to: path_of(rt, to.trim())?,
+    };
+    Ok(names.apply(rt.alloc(), &command, next)?)
+}
+
 // Asks what a line says: a command's word, then its paths, the two of a rename and the inputs and the
 // outputs of a job apart by `>`.
 fn ask(rt: &HostRuntime, names: &mut Names, line: &str, next: RecordId) -> Result<String, Fail> {
-    let alloc = rt.alloc();
     let (word, rest) = line.split_once(' ').ok_or("a word")?;
     let reply = match rest.split_once('>') {
-        Some((from, to)) => {
-            if word == "job" {
-                let inputs = paths_of(rt, from)?;
-                let outputs = paths_of(rt, to)?;
-                if outputs.len() > 255 {
-                    return Err("too many outputs".into());
-                }
-                let command: Command<MemTicket> = Command::Job {
-                    core: any_job(rt)?,
-                    prio: Prio::new(3).ok_or("a priority")?,
-                    inputs: Items::from_vec(inputs),
-                    outputs: Items::from_vec(outputs),
-                };
-                names.apply(alloc, &command, next)?
-            } else {
-                let command: Command<MemTicket> = Command::Rename {
-                    from: path_of(rt, from.trim())?,
-                    to: path_of(rt, to.trim())?,
-                };
-                names.apply(alloc, &command, next)?
-            }
-        }
+        Some((from, to)) if word == "job" => ask_job(rt, names, from, to, next)?,
+        Some((from, to)) => ask_rename(rt, names, from, to, next)?,
         None => ask_one(rt, names, word, path_of(rt, rest)?, next)?,
     };
     words(rt, &reply)
@@ -319,24 +335,36 @@ fn deep_names_are_moved(rt: HostRuntime) -> Result<(), Fail> {
     Ok(())
 }
 
+// Whether this is made as a file of `/w`, as record `n`.
+fn is_put(rt: &HostRuntime, names: &mut Names, name: u32, n: u32) -> Result<bool, Fail> {
+    let line = format!(in rt.alloc(); "put /w/f{}", name)?;
+    let reply = ask(rt, names, line.as_str(), RecordId(n))?;
+    Ok(reply.as_str().starts_with("made"))
+}
+
+// Whether the names of 1,000 files are listed in order.
+fn lists_in_order(rt: &HostRuntime, list: &str) -> Result<bool, Fail> {
+    let mut next = 1_000u32;
+    for word in list.split(' ').skip(1) {
+        let name = format!(in rt.alloc(); "f{}", next)?;
+        if word != name.as_str() {
+            return Ok(false);
+        }
+        next = next.wrapping_add(1);
+    }
+    Ok(next == 2_000)
+}
+
 #[test]
 fn wide_names_are_listed(rt: HostRuntime) -> Result<(), Fail> {
     let mut names = Names::new(rt.alloc())?;
     ask(&rt, &mut names, "mkdir /w", RecordId(0))?;
     for n in 0..1_000u32 {
-        let line = format!(in rt.alloc(); "put /w/f{}", 1_999 - n)?;
-        let reply = ask(&rt, &mut names, line.as_str(), RecordId(n))?;
-        assert!(&rt; reply.as_str().starts_with("made"));
+        assert!(&rt; is_put(&rt, &mut names, 1_999 - n, n)?);
     }
     ask(&rt, &mut names, "rename /w > /v", RecordId(1_000))?;
     let list = ask(&rt, &mut names, "list /v", RecordId(1_000))?;
-    let mut next = 1_000u32;
-    for word in list.as_str().split(' ').skip(1) {
-        let name = format!(in rt.alloc(); "f{}", next)?;
-        assert_eq!(&rt; word, name.as_str());
-        next = next.wrapping_add(1);
-    }
-    assert_eq!(&rt; next, 2_000);
+    assert!(&rt; lists_in_order(&rt, list.as_str())?);
     let stat = ask(&rt, &mut names, "stat /v", RecordId(1_000))?;
     assert_eq!(&rt; stat.as_str(), "dir 1000");
     Ok(())

@@ -1,10 +1,10 @@
-use crate::{
-    Accepted, inputs_refusal, names_of, parts_of, record_count, records_of, reply, reply_of_few,
-    reply_to,
-};
 use std::test::Fail;
 use tl_model::{Act, Command, Event, Reply};
 use tl_types::{Actor, Digest, Path, RecordId};
+use tl_walk::{
+    Accepted, inputs_refusal, names_of, parts_of, record_count, records_of, reply, reply_of_few,
+    reply_to,
+};
 
 // The path of one component.
 fn path_of(rt: &HostRuntime, part: &str) -> Result<Path, Fail> {

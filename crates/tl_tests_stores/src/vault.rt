@@ -1,9 +1,9 @@
-use crate::{LoadError, Vault, load};
 use std::alloc::Global;
 use std::test::Fail;
 use tl_io::{Depot, FalseDepot, MemDepot};
 use tl_model::{Damage, Saved};
 use tl_types::{Bytes, Digest, FileId, Outcome, RecordId};
+use tl_vault::{LoadError, Vault, load};
 
 // SHA-256 of `abc`, of `abd` and of `abcd`.
 const ABC: Digest = Digest([

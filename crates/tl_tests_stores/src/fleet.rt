@@ -1,5 +1,5 @@
-use crate::{Excepted, Fleet};
 use std::test::Fail;
+use tl_fleet::{Excepted, Fleet};
 use tl_types::{Block, Bytes, FileId, Outcome, RecordId, Shared, WorkerId};
 
 fn file(n: u32) -> FileId {

@@ -1,5 +1,5 @@
-use crate::{Excepted, Store};
 use std::test::Fail;
+use tl_store::{Excepted, Store};
 use tl_types::{Block, Bytes, FileId, Outcome, RecordId, Shared};
 
 fn file(n: u32) -> FileId {

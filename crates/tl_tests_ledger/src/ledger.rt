@@ -1,6 +1,9 @@
-use crate::Ledger;
+ghost use Rattle.std.specs.Prelude.{IfOk};
+ghost use Rattle.tl_names.specs.Answers.{HasFewOutputs};
+
 use std::test::Fail;
 use tl_io::FalseTicket;
+use tl_ledger::Ledger;
 use tl_model::{Act, Command, Event, Header, Reply};
 use tl_types::{Actor, Digest, Path, RecordId, WorkerId};
 
@@ -18,7 +21,9 @@ fn path_of(rt: &HostRuntime, part: &str) -> Result<Path, Fail> {
 }
 
 // The put of no bytes at the path of one component.
-fn put(rt: &HostRuntime, part: &str) -> Result<Command<FalseTicket>, Fail> {
+fn put(rt: &HostRuntime, part: &str) -> Result<Command<FalseTicket>, Fail>
+    ensures { IfOk result (λ command. HasFewOutputs command) }
+{
     Ok(Command::Put {
         path: path_of(rt, part)?,
         len: 0,

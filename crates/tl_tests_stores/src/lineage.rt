@@ -1,9 +1,9 @@
 ghost use Rattle.std.specs.Prelude.{◌≡◌, IfOk};
 ghost use Rattle.tl_model.specs.History.{id_of};
 
-use crate::Graph;
 use std::test::Fail;
 use tl_lang::{Checked, Conf, Expr, JobSpecCore, Program};
+use tl_lineage::Graph;
 use tl_model::Record;
 use tl_types::{FileId, Items, Prio, RecordId, Shared};
 

@@ -1,6 +1,6 @@
-use super::*;
 use std::process::Abort;
 use std::test::Fail;
+use tl_text::*;
 use tl_types::{Digest, FileId, Path, RecordId};
 
 const DIGEST: &[u8; 64] = b"e3b0c44298fc1c149afbf4c8996fb92427ae41e4649b934ca495991b7852b855";

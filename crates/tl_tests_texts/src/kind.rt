@@ -1,6 +1,6 @@
-use crate::{KindError, LangError, check, parse, print};
 use std::alloc::AllocError;
 use std::test::Fail;
+use tl_kind::{KindError, LangError, check, parse, print};
 use tl_lang::{Checked, Program};
 
 // The place and the number of a refusal; `None` where there is none.

@@ -1,6 +1,6 @@
-use crate::{Lawful, Owed, broken, fault_of, is_permitted, is_quiet, pays, what_is_owed};
 use std::test::Fail;
 use tl_model::{Act, Command, Event, Form, Header, Reply};
+use tl_rules::{Lawful, Owed, broken, fault_of, is_permitted, is_quiet, pays, what_is_owed};
 use tl_types::{Actor, Digest, FileId, Path, Prio, RecordId, WorkerId};
 
 const HEADER: Header = Header {

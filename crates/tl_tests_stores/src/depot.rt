@@ -1,6 +1,6 @@
-use crate::{FolderDepot, FolderTicket};
 use std::fs;
 use std::test::Fail;
+use tl_depot::{FolderDepot, FolderTicket};
 use tl_io::{Depot, DepotError};
 
 const FOLDER: &str = "tl_depot_test";

@@ -1,0 +1,14 @@
+//! Tests of the crates that keep blocks, files and records, a module for each crate. They stand apart so that
+//! those crates are not proved again beside them.
+#![tactic(auto)]
+
+#[cfg(test)]
+mod depot;
+#[cfg(test)]
+mod fleet;
+#[cfg(test)]
+mod lineage;
+#[cfg(test)]
+mod store;
+#[cfg(test)]
+mod vault;
