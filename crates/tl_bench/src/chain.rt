@@ -11,7 +11,11 @@ use tl_io::MemSink;
 /// Runs two scripts of a chain of so many jobs: one reads the last file, the other reads it, loses every file and
 /// reads it again. Prints the status of the second and the lines and bytes that it wrote; on standard error how long
 /// each took, and the same appends to plain vectors.
-pub fn measure(rt: &(impl Clock + Print + Eprint), alloc: Global, jobs: u32) -> io::Result<()> {
+pub(crate) fn measure(
+    rt: &(impl Clock + Print + Eprint),
+    alloc: Global,
+    jobs: u32,
+) -> io::Result<()> {
     let start = Instant::now(rt)?;
     let last = append_often(alloc, jobs)?;
     let appending = Pace {

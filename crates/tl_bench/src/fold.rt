@@ -15,7 +15,11 @@ const SLICES: [u32; 4] = [1, 64, 4_096, FUEL];
 
 /// Evaluates the job on so many empty lines, with each size of a slice, and prints the units of fuel that it used and
 /// the bytes of its output, none where the fuel was used up; on standard error how long that took, in units.
-pub fn measure(rt: &(impl Clock + Print + Eprint), alloc: Global, lines: u16) -> io::Result<()> {
+pub(crate) fn measure(
+    rt: &(impl Clock + Print + Eprint),
+    alloc: Global,
+    lines: u16,
+) -> io::Result<()> {
     let job = job_of(alloc, PROGRAM)?;
     for slice in SLICES {
         let text = vec![in alloc; b'\n'; usize::from(lines)]?;

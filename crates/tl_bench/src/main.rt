@@ -3,12 +3,15 @@
 #![tactic(auto)]
 
 mod alone;
+mod blocks;
 mod book;
 mod chain;
 mod crowd;
 mod evaluation;
 mod fold;
+mod folder;
 mod measure;
+mod names;
 mod pace;
 mod script;
 #[cfg(test)]
@@ -30,6 +33,14 @@ fn main(rt: HostRuntime) -> io::Result<ExitCode> {
         Some(Measure::Chain { jobs }) => chain::measure(&rt, rt.alloc(), jobs)?,
         Some(Measure::Fold { lines }) => fold::measure(&rt, rt.alloc(), lines)?,
         Some(Measure::Text { bytes }) => text::measure(&rt, rt.alloc(), bytes)?,
+        Some(Measure::Names { many }) => names::measure(&rt, rt.alloc(), many)?,
+        Some(Measure::Blocks { blocks, times }) => blocks::measure(&rt, rt.alloc(), blocks, times)?,
+        Some(Measure::Folder { folder, blocks }) => folder::measure(
+            &rt,
+            rt.alloc(),
+            folder,
+            blocks,
+        )?,
         Some(Measure::Small) => small(&rt)?,
         Some(Measure::Turns { seats, turns }) => turns::measure(&rt, rt.alloc(), seats, turns)?,
         None => {
@@ -46,5 +57,8 @@ fn small(rt: &HostRuntime) -> io::Result<()> {
     script::measure(rt, alloc, 10)?;
     chain::measure(rt, alloc, 3)?;
     fold::measure(rt, alloc, 10)?;
-    text::measure(rt, alloc, 100)
+    text::measure(rt, alloc, 100)?;
+    names::measure(rt, alloc, 20)?;
+    blocks::measure(rt, alloc, 10, 25)?;
+    folder::measure(rt, alloc, ".", 2)
 }

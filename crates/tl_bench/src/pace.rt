@@ -15,7 +15,7 @@ pub struct Pace {
 
 impl Pace {
     /// How many were done in a second, rounded down. A time too short to tell counts as a nanosecond.
-    pub fn rate(&self) -> u128 {
+    pub(crate) fn rate(&self) -> u128 {
         u128::from(self.count) * NANOS / self.time.as_nanos().max(1)
     }
 }

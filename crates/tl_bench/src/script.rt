@@ -10,7 +10,11 @@ use tl_io::SureSink;
 
 /// Runs a script of so many lines after its header, and prints its status; on standard error how long the run took, and
 /// a plain copy of the same bytes.
-pub fn measure(rt: &(impl Clock + Print + Eprint), alloc: Global, lines: u32) -> io::Result<()> {
+pub(crate) fn measure(
+    rt: &(impl Clock + Print + Eprint),
+    alloc: Global,
+    lines: u32,
+) -> io::Result<()> {
     let script = script_of(alloc, lines)?;
     let bytes = script.as_bytes();
     let start = Instant::now(rt)?;

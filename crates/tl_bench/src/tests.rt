@@ -4,7 +4,7 @@ use std::alloc::{AllocError, Global};
 use std::test::Fail;
 
 /// Words, and the measurement that they name.
-const CASES: [(&str, Option<Measure>); 15] = [
+const CASES: [(&str, Option<Measure<'static>>); 21] = [
     ("script 10", Some(Measure::Script { lines: 10 })),
     (
         "turns 8 1000",
@@ -25,6 +25,24 @@ const CASES: [(&str, Option<Measure>); 15] = [
     ("fold 65536", None),
     ("text 1048576", Some(Measure::Text { bytes: 1_048_576 })),
     ("text 1048577", None),
+    ("names 131070", Some(Measure::Names { many: 131_070 })),
+    ("names 131071", None),
+    (
+        "blocks 1 10",
+        Some(Measure::Blocks {
+            blocks: 1,
+            times: 10,
+        }),
+    ),
+    ("blocks 0 10", None),
+    (
+        "folder /tmp 3",
+        Some(Measure::Folder {
+            folder: "/tmp",
+            blocks: 3,
+        }),
+    ),
+    ("folder /tmp", None),
     ("small", Some(Measure::Small)),
     ("", None),
     ("script", None),

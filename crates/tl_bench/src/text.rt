@@ -29,7 +29,11 @@ const SLICE: u32 = 1_024;
 
 /// Evaluates each of the jobs on a text of so many bytes, and prints the units of fuel that it used and the bytes of
 /// its output; on standard error how long that took, in bytes of the text, and a plain copy of the text.
-pub fn measure(rt: &(impl Clock + Print + Eprint), alloc: Global, bytes: u32) -> io::Result<()> {
+pub(crate) fn measure(
+    rt: &(impl Clock + Print + Eprint),
+    alloc: Global,
+    bytes: u32,
+) -> io::Result<()> {
     let text = text_of(alloc, bytes)?;
     for (step, program) in JOBS {
         let job = job_of(alloc, program)?;

@@ -14,7 +14,7 @@ use tl_turn::{Seat, Told, Turn};
 
 /// Has each of so many seats take so many turns, and prints how many entries they made; on standard error how long the
 /// turns took, and as many under a `Mutex`. Both times have the starts and ends of the threads in them.
-pub fn measure<R: Threads + Wait + Sync + Clock + Print + Eprint>(
+pub(crate) fn measure<R: Threads + Wait + Sync + Clock + Print + Eprint>(
     rt: &R,
     alloc: Global,
     seats: u8,
