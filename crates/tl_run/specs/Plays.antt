@@ -1,5 +1,5 @@
 -- What the lines of a script leave in the journal, and what is printed of them.
-use Rattle.std.specs.Prelude.{◌≡◌, ◌≤◌, ◌%◌, ℕ, true, List, [], ◌∷◌, ◌++◌, reverse, Ok}
+use Rattle.std.specs.Prelude.{◌≡◌, ◌≤◌, ◌%◌, ◌==◌, ℕ, zero, suc, true, List, [], ◌∷◌, ◌++◌, if◌then◌else◌, reverse, Ok}
 use Rattle.tl_types.specs.declared.actor.Actor.{Actor}
 use Rattle.tl_types.specs.declared.worker_id.WorkerId.{WorkerId}
 use Rattle.tl_model.specs.declared.answer.Answer.{Answer}
@@ -63,15 +63,41 @@ abbrev pub form_of : Op → Form
 form_of (Read path prio form) = form
 form_of op = form.Cat
 
--- these lines were done one after another, the last first, from an empty journal on; one line was printed of each
-abbrev pub Played : Header → List Line → Events → List ℕ → Type 0
-Played header [] events text = (events ≡ []) × (text ≡ [])
-Played header (line ∷ earlier) events text =
-    (before : Events) × (printed : List ℕ) × (said : Answer) × Played header earlier before printed
-    × IsPiece header before events line.client line.op said × (text ≡ printed ++ transcript_line line.client (Ok said) (form_of line.op))
+-- a printed line, and the client whose command it answers
+pub record Printed : Type 0 where
+  pub client : ℕ
+  pub text : List ℕ
 
--- the lines were done in order, and left a journal that is lawful, and legal but for what is said of drops
+abbrev pub printed_of : Line → Answer → Printed
+printed_of line said = record { client = line.client; text = transcript_line line.client (Ok said) (form_of line.op) }
+
+-- these lines were done one after another, the last first, from an empty journal on; a line was printed of each, the first of
+-- them first
+abbrev pub Played : Header → List Line → Events → List Printed → Type 0
+Played header [] events printed = (events ≡ []) × (printed ≡ [])
+Played header (line ∷ earlier) events printed =
+    (before : Events) × (others : List Printed) × (said : Answer) × Played header earlier before others
+    × IsPiece header before events line.client line.op said × (printed ≡ others ++ (printed_of line said ∷ []))
+
+-- the lines that were printed of a client, in their order
+abbrev pub client_text : ℕ → List Printed → List ℕ
+client_text client [] = []
+client_text client (line ∷ later) = (if line.client == client then line.text else []) ++ client_text client later
+
+-- the lines of the clients below a number, one client after another
+abbrev pub texts_below : ℕ → List Printed → List ℕ
+texts_below zero printed = []
+texts_below (suc n) printed = texts_below n printed ++ client_text n printed
+
+-- the lines in the order in which they are written: those of each client together, the clients in ascending order
+abbrev pub transcript : List Printed → List ℕ
+transcript printed = texts_below (suc client_limit) printed
+
+-- the lines were done in order, and left a journal that is lawful, and legal but for what is said of drops; the text is what was
+-- printed of them
 pub record PlaysOut (header : Header) (lines : List Line) (events : Events) (text : List ℕ) : Type 0 where
-  pub played : Played header (reverse lines) events text
+  pub printed : List Printed
+  pub played : Played header (reverse lines) events printed
+  pub text_is : text ≡ transcript printed
   pub lawful : is_lawful header events ≡ true
   pub legal : holds (undropped_judge header) header (told events) ≡ true

@@ -7,6 +7,7 @@ mod reading;
 mod status;
 #[cfg(test)]
 mod tests;
+mod transcript;
 mod words;
 mod writing;
 

@@ -1,19 +1,18 @@
 //! Doing the lines of a script, one after another.
 
-ghost use Rattle.std.specs.Prelude.{◌≡◌, ◌<◌, ◌≤◌, ◌++◌, [], Ok, IfOk, OnOk};
+ghost use Rattle.std.specs.Prelude.{◌≡◌, ◌<◌, ◌≤◌, [], IfOk};
 ghost use Rattle.std.specs.List.{AllByRecursion};
 ghost use Rattle.tl_core.specs.Answers.{past_of};
 ghost use Rattle.tl_client.specs.Rest.{AllAtRest, IsAtRest, SameOpen};
-ghost use Rattle.tl_report.specs.Words.{transcript_line};
 ghost use Rattle.tl_script.specs.Commands.{IsOp};
-ghost use Rattle.tl_run.specs.Plays.{IsLine, IsPiece, IsReadAs, PlaysOut, form_of, worker_of};
+ghost use Rattle.tl_run.specs.Plays.{IsLine, IsPiece, IsReadAs, PlaysOut, form_of, transcript, worker_of};
 
+use crate::transcript::{Printed, print, transcript};
 use std::alloc::Global;
 use tl_client::{NameCommand, ask, lose, put, read, submit, try_read, work};
 use tl_core::Cluster;
 use tl_io::{MemTicket, SureDepot};
 use tl_model::{Answer, Form, Header};
-use tl_report::transcript_line;
 use tl_script::{Line, Op};
 use tl_types::{Actor, NoMemory, Path, Prio, WorkerId};
 
@@ -33,7 +32,7 @@ pub(crate) fn play(alloc: Global, header: Header, lines: Vec<Line>) -> Result<Fi
 {
     let mut depot = SureDepot::new();
     let mut cluster = at_rest(alloc, header)?;
-    let mut text = Vec::new(alloc);
+    let mut printed = Vec::new(alloc);
     let mut rest = lines;
     rest.reverse();
     'lines: while let Some(line) = rest.pop() {
@@ -47,9 +46,22 @@ pub(crate) fn play(alloc: Global, header: Header, lines: Vec<Line>) -> Result<Fi
             client,
             line.op,
         )?;
-        print(&mut text, client, answer, form)?;
+        print(alloc, &mut printed, client, answer, form)?;
     }
     cluster.stands();
+    with_transcript(alloc, cluster, &printed)
+}
+
+// The cluster on which lines were done, with what was printed of them in the order of their clients.
+fn with_transcript(
+    alloc: Global,
+    cluster: Cluster<MemTicket>,
+    printed: &[Printed],
+) -> Result<Finished, NoMemory>
+    ensures cluster { IfOk result (λ finished. finished.cluster ≡ cluster) }
+    ensures text { IfOk result (λ finished. finished.text.items ≡ transcript printed.now) }
+{
+    let text = transcript(alloc, printed)?;
     Ok(Finished { cluster, text })
 }
 
@@ -60,13 +72,6 @@ fn at_rest(alloc: Global, header: Header) -> Result<Cluster<MemTicket>, NoMemory
     ensures rest { IfOk result (λ cluster. AllAtRest (past_of cluster)) }
 {
     Cluster::new(alloc, header)
-}
-
-// Prints the answer of a client's command.
-fn print(text: &mut Vec<u8>, client: u8, answer: Answer, form: Form) -> Result<(), NoMemory>
-    ensures { OnOk result (text.new.items ≡ text.old.items ++ transcript_line client (Ok answer) form) }
-{
-    transcript_line(text, client, &Ok(answer), form)
 }
 
 // Does a client's command, of which nobody has anything under way.

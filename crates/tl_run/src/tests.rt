@@ -85,7 +85,7 @@ const CASES: [Case; 27] = [
         name: "two clients",
         input: "tachyon 1 workers 1 capacity 100 hot 3\n1 put /a \"x\"\n7 cat 0 /a\n1 cat 0 /a/b\n",
         status: 0,
-        output: "0 1 made 0\n1 7 file 0.0 1 \"x\"\n2 1 notdir\n",
+        output: "0 1 made 0\n2 1 notdir\n1 7 file 0.0 1 \"x\"\n",
     },
     Case {
         name: "a component that is a dot",

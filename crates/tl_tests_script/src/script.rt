@@ -1,6 +1,6 @@
 use std::test::Fail;
 use tl_model::Header;
-use tl_script::{Script, ScriptError, parse};
+use tl_script::{ScriptError, parse, parse_op};
 
 const HEADER: Header = Header {
     workers: 1,
@@ -8,9 +8,9 @@ const HEADER: Header = Header {
     hot: 3,
 };
 
-// The number of the refused line and of its kind; `None` where the script is read.
-fn refused(script: &Result<Script, ScriptError>) -> Option<(u64, u8)> {
-    match script {
+// The number of the refused line and of its kind; `None` where the text is read.
+fn refused<T>(read: &Result<T, ScriptError>) -> Option<(u64, u8)> {
+    match read {
         Ok(_) => None,
         Err(ScriptError::Bad { line, kind }) => Some((*line, kind.number())),
         Err(ScriptError::NoMemory) => Some((0, 0)),
@@ -146,6 +146,30 @@ fn lines_are_refused(rt: HostRuntime) -> Result<(), Fail> {
         let text = with_line(&rt, line)?;
         let script = parse(rt.alloc(), text.as_slice());
         assert_eq!(rt; refused(&script), Some((2, kind.saturating_sub(b'0'))));
+    }
+    Ok(())
+}
+
+// Without its client, a command of a line is read alone.
+#[test]
+fn commands_are_read_alone(rt: HostRuntime) -> Result<(), Fail> {
+    for line in READ.split(|byte| *byte == b'\n') {
+        let [b'0'..=b'7', b' ', command @ ..] = line else {
+            continue;
+        };
+        assert!(rt; parse_op(rt.alloc(), command, &HEADER).is_ok());
+    }
+    Ok(())
+}
+
+#[test]
+fn commands_are_refused_alone(rt: HostRuntime) -> Result<(), Fail> {
+    for row in REFUSED.split(|byte| *byte == b'\n') {
+        let [kind, b' ', b'0', b' ', command @ ..] = row else {
+            continue;
+        };
+        let read = parse_op(rt.alloc(), command, &HEADER);
+        assert_eq!(rt; refused(&read), Some((1, kind.saturating_sub(b'0'))));
     }
     Ok(())
 }

@@ -9,7 +9,7 @@ pub lines-init : goal.lines-init
 lines-init c =
     let again : reverse c.reverse.new.self.items ≡ c.args.lines.items = ap reverse c.reverse.ensures.items ∙ reverse-reverse c.args.lines.items in
     record {
-      played = ([], sym c.reverse.ensures.items ∙ sym (append-nil c.reverse.new.self.items), (c.in_ok-cluster.ensures.events, c.new-text.ensures.items));
+      played = ([], sym c.reverse.ensures.items ∙ sym (append-nil c.reverse.new.self.items), (c.in_ok-cluster.ensures.events, c.new-printed.ensures.items));
       lines = subst (λ (lines : List Line). AllByRecursion (IsLine c.args.header) lines) (sym again) c.requires.lines;
       rest = c.in_ok-cluster.ensures.rest;
       header = c.in_ok-cluster.ensures.header;

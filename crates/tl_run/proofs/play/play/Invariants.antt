@@ -8,7 +8,7 @@ use Rattle.tl_run.proofs.play.play.Given as goal
 
 abbrev pub invariant-lines : goal.invariant-lines
 invariant-lines l = record {
-  played : (done : List Line) × (reverse l.fn.lines.items ≡ l.rest.items ++ done) × Played l.fn.header done l.cluster.events l.text.items;
+  played : (done : List Line) × (reverse l.fn.lines.items ≡ l.rest.items ++ done) × Played l.fn.header done l.cluster.events l.printed.items;
   lines : AllByRecursion (IsLine l.fn.header) (reverse l.rest.items);
   rest : AllAtRest (past_of l.cluster);
   header : l.cluster.header ≡ l.fn.header;
