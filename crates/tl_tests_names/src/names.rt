@@ -1,3 +1,5 @@
+ghost use Rattle.tl_names.specs.Answers.{HasFewOutputs};
+
 use std::test::Fail;
 use tl_io::MemTicket;
 use tl_lang::{Checked, Conf, Expr, Items as Exprs, JobSpecCore, Program};
@@ -111,6 +113,16 @@ const RESOLVED: &str = "\
 mkdir /d = ok\n\
 job > /f /g = made 0";
 
+// What each path names after that.
+const FOUND: &str = "\
+/ = dir\n\
+/d = dir\n\
+/g = file 0.1 false\n\
+/no = nosuch\n\
+/no/x = nosuch\n\
+/g/x = notdir\n\
+/g/x/y = notdir";
+
 // As many records as there may be.
 const FULL: &str = "\
 put /f = exists\n\
@@ -122,36 +134,54 @@ stat /new = nosuch";
 
 fn path_of(rt: &HostRuntime, text: &str) -> Result<Path, Fail> {
     let mut parts = Vec::new(rt.alloc());
+    add_parts(rt, &mut parts, text)?;
+    Ok(Path::new(parts).ok_or("a path")?)
+}
+
+// Adds the components that stand in a text apart by `/`.
+fn add_parts(rt: &HostRuntime, parts: &mut Vec<Vec<u8>>, text: &str) -> Result<(), Fail> {
     for part in text.split('/') {
         if !part.is_empty() {
             parts.push(part.as_bytes().to_vec(rt.alloc())?)?;
         }
     }
-    Ok(Path::new(parts).ok_or("a path")?)
+    Ok(())
 }
 
 fn paths_of(rt: &HostRuntime, texts: &str) -> Result<Vec<Path>, Fail> {
     let mut paths = Vec::new(rt.alloc());
+    add_paths(rt, &mut paths, texts)?;
+    Ok(paths)
+}
+
+// Adds the paths that stand in a text apart by spaces.
+fn add_paths(rt: &HostRuntime, paths: &mut Vec<Path>, texts: &str) -> Result<(), Fail> {
     for text in texts.split(' ') {
         if !text.is_empty() {
             paths.push(path_of(rt, text)?)?;
         }
     }
-    Ok(paths)
+    Ok(())
 }
 
-// A job of one output; what it does has no part in its names.
+// A program of one output that is an empty text.
 #[tactic(auto, unfolding(tl_lang::specs::Computing::computing))]
-fn any_job(rt: &HostRuntime) -> Result<Shared<JobSpecCore>, Fail> {
-    let mut outputs = Vec::new(rt.alloc());
+fn any_program(rt: &HostRuntime) -> Result<Checked, Fail> {
     let text = Bytes::new(Vec::new(rt.alloc())).ok_or("too long")?;
+    let mut outputs = Vec::new(rt.alloc());
     outputs.push(Expr::Text(text))?;
     let program = Program {
         outputs: Exprs::from_vec(outputs),
     };
+    Ok(Checked::new(program, 0, 1))
+}
+
+// A job of one output; what it does has no part in its names.
+fn any_job(rt: &HostRuntime) -> Result<Shared<JobSpecCore>, Fail> {
+    let conf = Conf::new(Vec::new(rt.alloc())).ok_or("refused")?;
     let job = JobSpecCore {
-        program: Checked::new(program, 0, 1),
-        conf: Conf::new(Vec::new(rt.alloc())).ok_or("refused")?,
+        program: any_program(rt)?,
+        conf,
         fuel: 1,
     };
     Ok(Shared::new(rt.alloc(), job)?)
@@ -160,6 +190,12 @@ fn any_job(rt: &HostRuntime) -> Result<Shared<JobSpecCore>, Fail> {
 // The names of a listing, a directory's with `/` behind it.
 fn listed(rt: &HostRuntime, entries: &[Entry]) -> Result<String, Fail> {
     let mut text = format!(in rt.alloc(); "list")?;
+    add_entries(&mut text, entries)?;
+    Ok(text)
+}
+
+// Adds the names of entries, each behind a space.
+fn add_entries(text: &mut String, entries: &[Entry]) -> Result<(), Fail> {
     for entry in entries {
         text.push(' ')?;
         for byte in entry.name.as_slice() {
@@ -169,30 +205,88 @@ fn listed(rt: &HostRuntime, entries: &[Entry]) -> Result<String, Fail> {
             text.push('/')?;
         }
     }
-    Ok(text)
+    Ok(())
+}
+
+// What a path names, in words.
+fn status_words(rt: &HostRuntime, status: Status) -> Result<String, Fail> {
+    let text = match status {
+        Status::File { file, pinned } => {
+            format!(in rt.alloc(); "file {}.{} {}", file.rec.0, file.out, pinned)
+        }
+        Status::Dir { children } => format!(in rt.alloc(); "dir {}", children),
+    };
+    Ok(text?)
+}
+
+// The word of a reply that has no parts.
+fn word_of(reply: &Reply) -> &'static str {
+    match reply {
+        Reply::Fine => "ok",
+        Reply::Exists => "exists",
+        Reply::NoSuch => "nosuch",
+        Reply::NotFile => "notfile",
+        Reply::NotDir => "notdir",
+        Reply::NotEmpty => "notempty",
+        Reply::TooDeep => "toodeep",
+        Reply::IntoItself => "intoitself",
+        Reply::TooMany => "toomany",
+        Reply::Made(_) | Reply::Opened(_) | Reply::Listed(_) | Reply::Stated(_) => "parts",
+    }
 }
 
 // The reply in words.
 fn words(rt: &HostRuntime, reply: &Reply) -> Result<String, Fail> {
     let alloc = rt.alloc();
-    Ok(match reply {
-        Reply::Made(made) => format!(in alloc; "made {}", made.0)?,
-        Reply::Fine => format!(in alloc; "ok")?,
-        Reply::Opened(file) => format!(in alloc; "open {}.{}", file.rec.0, file.out)?,
-        Reply::Listed(entries) => listed(rt, entries.as_slice())?,
-        Reply::Stated(Status::File { file, pinned }) => {
-            format!(in alloc; "file {}.{} {}", file.rec.0, file.out, pinned)?
-        }
-        Reply::Stated(Status::Dir { children }) => format!(in alloc; "dir {}", children)?,
-        Reply::Exists => format!(in alloc; "exists")?,
-        Reply::NoSuch => format!(in alloc; "nosuch")?,
-        Reply::NotFile => format!(in alloc; "notfile")?,
-        Reply::NotDir => format!(in alloc; "notdir")?,
-        Reply::NotEmpty => format!(in alloc; "notempty")?,
-        Reply::TooDeep => format!(in alloc; "toodeep")?,
-        Reply::IntoItself => format!(in alloc; "intoitself")?,
-        Reply::TooMany => format!(in alloc; "toomany")?,
-    })
+    match reply {
+        Reply::Made(made) => Ok(format!(in alloc; "made {}", made.0)?),
+        Reply::Opened(file) => Ok(format!(in alloc; "open {}.{}", file.rec.0, file.out)?),
+        Reply::Listed(entries) => listed(rt, entries.as_slice()),
+        Reply::Stated(status) => status_words(rt, *status),
+        _ => Ok(word_of(reply).to_string(alloc)?),
+    }
+}
+
+// Asks this command.
+fn apply(
+    rt: &HostRuntime,
+    names: &mut Names,
+    command: Command<MemTicket>,
+    next: RecordId,
+) -> Result<Reply, Fail>
+    requires { HasFewOutputs command }
+{
+    let reply = names.apply(rt.alloc(), &command, next);
+    drop(command);
+    Ok(reply?)
+}
+
+// Asks a put of no bytes.
+fn ask_put(rt: &HostRuntime, names: &mut Names, path: Path, next: RecordId) -> Result<Reply, Fail> {
+    let ticket = MemTicket::new(rt.alloc(), b"")?;
+    let command = Command::Put {
+        path,
+        len: 0,
+        digest: Digest([0; 32]),
+        ticket,
+    };
+    apply(rt, names, command, next)
+}
+
+// Asks a read.
+fn ask_read(
+    rt: &HostRuntime,
+    names: &mut Names,
+    path: Path,
+    next: RecordId,
+) -> Result<Reply, Fail> {
+    let prio = Prio::new(3).ok_or("a priority")?;
+    let command = Command::Read {
+        path,
+        prio,
+        form: Form::Cat,
+    };
+    apply(rt, names, command, next)
 }
 
 // Asks a command of one path, which stands behind its word.
@@ -203,29 +297,17 @@ fn ask_one(
     path: Path,
     next: RecordId,
 ) -> Result<Reply, Fail> {
-    let alloc = rt.alloc();
-    let prio = Prio::new(3).ok_or("a priority")?;
-    let command = match word {
-        "put" => Command::Put {
-            path,
-            len: 0,
-            digest: Digest([0; 32]),
-            ticket: MemTicket::new(alloc, b"")?,
-        },
-        "read" => Command::Read {
-            path,
-            prio,
-            form: Form::Cat,
-        },
-        "delete" => Command::Delete { path },
-        "mkdir" => Command::Mkdir { path },
-        "pin" => Command::Pin { path },
-        "unpin" => Command::Unpin { path },
-        "list" => Command::List { path },
-        "stat" => Command::Stat { path },
-        _ => Command::Free { path },
-    };
-    Ok(names.apply(alloc, &command, next)?)
+    match word {
+        "put" => ask_put(rt, names, path, next),
+        "read" => ask_read(rt, names, path, next),
+        "delete" => apply(rt, names, Command::Delete { path }, next),
+        "mkdir" => apply(rt, names, Command::Mkdir { path }, next),
+        "pin" => apply(rt, names, Command::Pin { path }, next),
+        "unpin" => apply(rt, names, Command::Unpin { path }, next),
+        "list" => apply(rt, names, Command::List { path }, next),
+        "stat" => apply(rt, names, Command::Stat { path }, next),
+        _ => apply(rt, names, Command::Free { path }, next),
+    }
 }
 
 // Asks a job of these inputs and outputs.
@@ -236,18 +318,20 @@ fn ask_job(
     outputs: &str,
     next: RecordId,
 ) -> Result<Reply, Fail> {
+    let prio = Prio::new(3).ok_or("a priority")?;
+    let core = any_job(rt)?;
     let inputs = paths_of(rt, inputs)?;
     let outputs = paths_of(rt, outputs)?;
     if outputs.len() > 255 {
         return Err("too many outputs".into());
     }
-    let command: Command<MemTicket> = Command::Job {
-        core: any_job(rt)?,
-        prio: Prio::new(3).ok_or("a priority")?,
+    let command = Command::Job {
+        core,
+        prio,
         inputs: Items::from_vec(inputs),
         outputs: Items::from_vec(outputs),
     };
-    Ok(names.apply(rt.alloc(), &command, next)?)
+    apply(rt, names, command, next)
 }
 
 // Asks that a name gets another path.
@@ -258,23 +342,52 @@ fn ask_rename(
     to: &str,
     next: RecordId,
 ) -> Result<Reply, Fail> {
-    let command: Command<MemTicket> = Command::Rename {
-        from: path_of(rt, from.trim())?,
-        to: path_of(rt, to.trim())?,
-    };
-    Ok(names.apply(rt.alloc(), &command, next)?)
+    let from = path_of(rt, from.trim())?;
+    let to = path_of(rt, to.trim())?;
+    apply(rt, names, Command::Rename { from, to }, next)
 }
 
 // Asks what a line says: a command's word, then its paths, the two of a rename and the inputs and the
 // outputs of a job apart by `>`.
-fn ask(rt: &HostRuntime, names: &mut Names, line: &str, next: RecordId) -> Result<String, Fail> {
+fn reply_to(
+    rt: &HostRuntime,
+    names: &mut Names,
+    line: &str,
+    next: RecordId,
+) -> Result<Reply, Fail> {
     let (word, rest) = line.split_once(' ').ok_or("a word")?;
-    let reply = match rest.split_once('>') {
-        Some((from, to)) if word == "job" => ask_job(rt, names, from, to, next)?,
-        Some((from, to)) => ask_rename(rt, names, from, to, next)?,
-        None => ask_one(rt, names, word, path_of(rt, rest)?, next)?,
-    };
-    words(rt, &reply)
+    match rest.split_once('>') {
+        Some((from, to)) if word == "job" => ask_job(rt, names, from, to, next),
+        Some((from, to)) => ask_rename(rt, names, from, to, next),
+        None => ask_one(rt, names, word, path_of(rt, rest)?, next),
+    }
+}
+
+// What is answered to a line, in words.
+fn ask(rt: &HostRuntime, names: &mut Names, line: &str, next: RecordId) -> Result<String, Fail> {
+    let reply = reply_to(rt, names, line, next)?;
+    let text = words(rt, &reply);
+    drop(reply);
+    text
+}
+
+// Asks a line that has its answer behind `=`, and answers what is answered where that is another.
+// Accepted puts and jobs are counted by `next`.
+fn other(
+    rt: &HostRuntime,
+    names: &mut Names,
+    asked: &str,
+    next: &mut u32,
+) -> Result<Option<String>, Fail> {
+    let (line, answer) = asked.split_once('=').ok_or("an answer")?;
+    let reply = ask(rt, names, line.trim(), RecordId(*next))?;
+    if reply.as_str() != answer.trim() {
+        return Ok(Some(format!(in rt.alloc(); "{}: {}", line, reply)?));
+    }
+    if reply.as_str().starts_with("made") {
+        *next = next.saturating_add(1);
+    }
+    Ok(None)
 }
 
 // Asks the lines of a text in order, each of which has its answer behind `=`, and answers the first that
@@ -287,13 +400,8 @@ fn first_other(
 ) -> Result<Option<String>, Fail> {
     let mut next = next;
     for asked in text.lines() {
-        let (line, answer) = asked.split_once('=').ok_or("an answer")?;
-        let reply = ask(rt, names, line.trim(), RecordId(next))?;
-        if reply.as_str() != answer.trim() {
-            return Ok(Some(format!(in rt.alloc(); "{}: {}", line, reply)?));
-        }
-        if reply.as_str().starts_with("made") {
-            next = next.saturating_add(1);
+        if let Some(other) = other(rt, names, asked, &mut next)? {
+            return Ok(Some(other));
         }
     }
     Ok(None)
@@ -315,23 +423,31 @@ fn refusals_in_order(rt: HostRuntime) -> Result<(), Fail> {
     Ok(())
 }
 
+// The output of record 0 with this number.
+fn file(out: u8) -> FileId {
+    FileId {
+        rec: RecordId(0),
+        out,
+    }
+}
+
+// What the path in a text names.
+fn resolved(rt: &HostRuntime, names: &Names, text: &str) -> Result<Found, Fail> {
+    let path = path_of(rt, text)?;
+    Ok(names.resolve(&path))
+}
+
 #[test]
 fn deep_names_are_moved(rt: HostRuntime) -> Result<(), Fail> {
     let mut names = Names::new(rt.alloc())?;
     assert_eq!(&rt; first_other(&rt, &mut names, DEEP, 0)?, None);
-    let f = FileId {
-        rec: RecordId(0),
-        out: 0,
+    assert_eq!(&rt; names.pinned(file(0)), Some(true));
+    let moved = resolved(&rt, &names, "/x/2/3/4/5/6/7/8/9/10/11/12/13/14/15/f")?;
+    let found = Found::File {
+        file: file(0),
+        pinned: true,
     };
-    assert_eq!(&rt; names.pinned(f), Some(true));
-    let moved = path_of(&rt, "/x/2/3/4/5/6/7/8/9/10/11/12/13/14/15/f")?;
-    assert_eq!(&rt;
-        names.resolve(&moved),
-        Found::File {
-            file: f,
-            pinned: true
-        }
-    );
+    assert_eq!(&rt; moved, found);
     Ok(())
 }
 
@@ -342,12 +458,29 @@ fn is_put(rt: &HostRuntime, names: &mut Names, name: u32, n: u32) -> Result<bool
     Ok(reply.as_str().starts_with("made"))
 }
 
+// Whether 1,000 files are made in a directory, the last name first. Then the directory is moved.
+fn makes_many(rt: &HostRuntime, names: &mut Names) -> Result<bool, Fail> {
+    ask(rt, names, "mkdir /w", RecordId(0))?;
+    for n in 0..1_000u32 {
+        if !is_put(rt, names, 1_999 - n, n)? {
+            return Ok(false);
+        }
+    }
+    ask(rt, names, "rename /w > /v", RecordId(1_000))?;
+    Ok(true)
+}
+
+// Whether this word is the name of a file by its number.
+fn is_name(rt: &HostRuntime, word: &str, number: u32) -> Result<bool, Fail> {
+    let name = format!(in rt.alloc(); "f{}", number)?;
+    Ok(word == name.as_str())
+}
+
 // Whether the names of 1,000 files are listed in order.
 fn lists_in_order(rt: &HostRuntime, list: &str) -> Result<bool, Fail> {
     let mut next = 1_000u32;
     for word in list.split(' ').skip(1) {
-        let name = format!(in rt.alloc(); "f{}", next)?;
-        if word != name.as_str() {
+        if !is_name(rt, word, next)? {
             return Ok(false);
         }
         next = next.wrapping_add(1);
@@ -355,48 +488,67 @@ fn lists_in_order(rt: &HostRuntime, list: &str) -> Result<bool, Fail> {
     Ok(next == 2_000)
 }
 
+// Whether the listing of the directory has the names of 1,000 files in order.
+fn lists_many(rt: &HostRuntime, names: &mut Names) -> Result<bool, Fail> {
+    let list = ask(rt, names, "list /v", RecordId(1_000))?;
+    lists_in_order(rt, list.as_str())
+}
+
 #[test]
 fn wide_names_are_listed(rt: HostRuntime) -> Result<(), Fail> {
     let mut names = Names::new(rt.alloc())?;
-    ask(&rt, &mut names, "mkdir /w", RecordId(0))?;
-    for n in 0..1_000u32 {
-        assert!(&rt; is_put(&rt, &mut names, 1_999 - n, n)?);
-    }
-    ask(&rt, &mut names, "rename /w > /v", RecordId(1_000))?;
-    let list = ask(&rt, &mut names, "list /v", RecordId(1_000))?;
-    assert!(&rt; lists_in_order(&rt, list.as_str())?);
-    let stat = ask(&rt, &mut names, "stat /v", RecordId(1_000))?;
-    assert_eq!(&rt; stat.as_str(), "dir 1000");
+    assert!(&rt; makes_many(&rt, &mut names)?);
+    assert!(&rt; lists_many(&rt, &mut names)?);
+    assert_eq!(&rt;
+        first_other(&rt, &mut names, "stat /v = dir 1000", 1_000)?,
+        None
+    );
     Ok(())
+}
+
+// What was found, in words.
+fn found_words(rt: &HostRuntime, found: Found) -> Result<String, Fail> {
+    let alloc = rt.alloc();
+    match found {
+        Found::Dir => Ok("dir".to_string(alloc)?),
+        Found::NoSuch => Ok("nosuch".to_string(alloc)?),
+        Found::NotDir => Ok("notdir".to_string(alloc)?),
+        Found::File { file, pinned } => status_words(rt, Status::File { file, pinned }),
+    }
+}
+
+// Whether a path names what stands behind its `=`.
+fn is_found(rt: &HostRuntime, names: &Names, line: &str) -> Result<bool, Fail> {
+    let (path, answer) = line.split_once('=').ok_or("an answer")?;
+    let found = resolved(rt, names, path.trim())?;
+    let text = found_words(rt, found)?;
+    Ok(text.as_str() == answer.trim())
+}
+
+// The first line of a path that names something else.
+fn first_unlike(rt: &HostRuntime, names: &Names) -> Result<Option<&'static str>, Fail> {
+    for line in FOUND.lines() {
+        if !is_found(rt, names, line)? {
+            return Ok(Some(line));
+        }
+    }
+    Ok(None)
+}
+
+// The pin of a file at first, after a pin, and when the file has no name.
+fn pins(rt: &HostRuntime, names: &mut Names) -> Result<[Option<bool>; 3], Fail> {
+    let first = names.pinned(file(1));
+    ask(rt, names, "pin /g", RecordId(1))?;
+    let then = names.pinned(file(1));
+    ask(rt, names, "delete /g", RecordId(1))?;
+    Ok([first, then, names.pinned(file(1))])
 }
 
 #[test]
 fn paths_are_resolved(rt: HostRuntime) -> Result<(), Fail> {
     let mut names = Names::new(rt.alloc())?;
     assert_eq!(&rt; first_other(&rt, &mut names, RESOLVED, 0)?, None);
-    let g = FileId {
-        rec: RecordId(0),
-        out: 1,
-    };
-    let found = Found::File {
-        file: g,
-        pinned: false,
-    };
-    for (text, answer) in [
-        ("/", Found::Dir),
-        ("/d", Found::Dir),
-        ("/g", found),
-        ("/no", Found::NoSuch),
-        ("/no/x", Found::NoSuch),
-        ("/g/x", Found::NotDir),
-        ("/g/x/y", Found::NotDir),
-    ] {
-        assert_eq!(&rt; names.resolve(&path_of(&rt, text)?), answer, "{}", text);
-    }
-    assert_eq!(&rt; names.pinned(g), Some(false));
-    ask(&rt, &mut names, "pin /g", RecordId(1))?;
-    assert_eq!(&rt; names.pinned(g), Some(true));
-    ask(&rt, &mut names, "delete /g", RecordId(1))?;
-    assert_eq!(&rt; names.pinned(g), None);
+    assert_eq!(&rt; first_unlike(&rt, &names)?, None);
+    assert_eq!(&rt; pins(&rt, &mut names)?, [Some(false), Some(true), None]);
     Ok(())
 }
