@@ -24,8 +24,6 @@ mod running;
 mod split;
 mod stack;
 mod stop;
-#[cfg(test)]
-mod tests;
 mod text;
 mod texts;
 mod value;
