@@ -18,10 +18,10 @@ use Rattle.tl_model.specs.Tables.{chosen}
 use Rattle.tl_model.specs.Plan.{next, tasks}
 use Rattle.tl_model.specs.Rules.{is_lawful}
 use Rattle.tl_progress.specs.Reads.{waiting-read-has-next, next-leaves-fewer}
-use Rattle.tl_core.specs.Called.{put_made, with_saved}
+use Rattle.tl_core.specs.Called.{after_call}
 use Rattle.tl_core.specs.Answers.{past_of}
 use Rattle.tl_core.specs.State.{State}
-use Rattle.tl_client.specs.Pieces.{Events, call_event, with_run}
+use Rattle.tl_client.specs.Pieces.{Events, with_run}
 use Rattle.tl_client.specs.Rest.{NothingRuns}
 
 pub nothing-is-running : (past : Past) (actor : Actor) → NothingRuns past actor → (made : RecordId) → is_running past made ≡ false
@@ -33,14 +33,14 @@ own-read past actor new = ap (λ b. if b then new else open_read past actor) ((a
 
 -- a read that the namespace opened is open on its file
 pub opened-read : (events after : Events) (actor : Actor) (path : List (List ℕ)) (prio : ℕ) (form : Form) (reply : Reply) (f : FileId) → reply ≡ Opened f →
-    after ≡ with_saved actor (put_made {T = List ℕ} reply (Read path prio form)) (call_event actor (Read path prio form) reply ∷ events) →
+    after ≡ after_call {T = List ℕ} actor (Read path prio form) reply events →
     (read : OpenRead) × (open_read (without_tickets after) actor ≡ Some read) × (read.file ≡ f)
 opened-read events after actor path prio form reply f is made =
     let command : Command (List ℕ) = Read path prio form in
     let opened : OpenRead = record { file = f; prio = prio } in (
       opened,
       ap (λ (es : Events). open_read (without_tickets es) actor) made
-          ∙ ap (λ (r : Reply). open_read (without_tickets (with_saved actor (put_made r command) (call_event actor command r ∷ events))) actor) is
+          ∙ ap (λ (r : Reply). open_read (without_tickets (after_call actor command r events)) actor) is
           ∙ own-read (without_tickets events) actor (Some opened),
       refl,
     )

@@ -24,7 +24,7 @@ use Rattle.tl_model.specs.History.{calls_of, reply_after}
 use Rattle.tl_model.specs.Residency.{is_available}
 use Rattle.tl_model.specs.Plan.{next}
 use Rattle.tl_model.specs.Values.{value}
-use Rattle.tl_core.specs.Called.{put_made, with_saved}
+use Rattle.tl_core.specs.Called.{after_call}
 use Rattle.tl_client.specs.declared.names.NameCommand.{NameCommand}
 use Rattle.tl_client.specs.declared.names.NameCommand.TheVariants as asked
 
@@ -40,12 +40,12 @@ told events = events_with (λ bytes. bytes) events
 abbrev pub call_event : {T : Type 0} → Actor → Command T → Reply → Event T
 call_event actor command reply = record { actor = actor; act = Call command reply }
 
--- the command was answered as the history determines, at its number in the history; the journal has the call, and after
--- an accepted put its Saved
+-- the command was answered as the history determines, at its number in the history; the journal has the call, and what follows it: after an
+-- accepted put its Saved, and after a free the Free of a file that was in memory
 abbrev pub IsSaid : Events → Events → Actor → Command (List ℕ) → Answer → Type 0
 IsSaid before after actor command (Said at reply) =
     (at ≡ call_count before) × (reply ≡ reply_after (calls_of before) command)
-    × (after ≡ with_saved actor (put_made reply command) (call_event actor command reply ∷ before))
+    × (after ≡ after_call actor command reply before)
 IsSaid before after actor command _ = ⊥
 
 -- the put of these bytes, with their length and digest
@@ -53,7 +53,7 @@ abbrev pub IsPut : Events → Events → Actor → List (List ℕ) → List ℕ 
 IsPut before after actor path bytes answer =
     (digest : Digest) × (digest.0 ≡ sha256 bytes) × IsSaid before after actor (Put path (length bytes) digest bytes) answer
 
--- what is asked of names, as a command
+-- what is asked, as a command
 abbrev pub command_of : {T : Type 0} → NameCommand → Command T
 command_of (asked.Delete path) = commands.Delete path
 command_of (asked.Mkdir path) = commands.Mkdir path
@@ -62,6 +62,7 @@ command_of (asked.Pin path) = commands.Pin path
 command_of (asked.Unpin path) = commands.Unpin path
 command_of (asked.List path) = commands.List path
 command_of (asked.Stat path) = commands.Stat path
+command_of (asked.Free path) = commands.Free path
 
 -- ---- running what is next
 

@@ -1,10 +1,10 @@
-//! The calls that ask of names alone.
+//! The calls that make no file and read none.
 
-ghost use Rattle.std.specs.Prelude.{◌≡◌, ◌<◌, true, false, IfOk};
+ghost use Rattle.std.specs.Prelude.{◌≡◌, ◌<◌, true, false, None, IfOk};
 ghost use Rattle.tl_model.specs.Past.{command_with};
 ghost use Rattle.tl_model.specs.Rules.{put_has_its_bytes};
 ghost use Rattle.tl_core.specs.Answers.{past_of};
-ghost use Rattle.tl_core.specs.Called.{IsFitting, is_free};
+ghost use Rattle.tl_core.specs.Called.{IsFitting, bytes_put};
 ghost use Rattle.tl_client.specs.Pieces.{IsSaid, command_of};
 ghost use Rattle.tl_client.specs.Rest.{IsAtRest, SameOpen, may_open};
 
@@ -14,7 +14,7 @@ use tl_io::MemTicket;
 use tl_model::{Answer, Command};
 use tl_types::{Actor, NoMemory, Path};
 
-/// What a client asks of names alone: no file is made, read or freed by it.
+/// What a client asks in one call that makes no file and reads none.
 #[derive(Debug, Drop)]
 pub enum NameCommand {
     /// A name is taken away: a file's, or an empty directory's.
@@ -31,6 +31,8 @@ pub enum NameCommand {
     List { path: Path },
     /// What a path names is asked for.
     Stat { path: Path },
+    /// A file is taken out of the memory that it is in.
+    Free { path: Path },
 }
 
 impl NameCommand {
@@ -39,8 +41,8 @@ impl NameCommand {
         ensures same { result ≡ command_of self }
         ensures fitting { IsFitting result }
         ensures bytes { put_has_its_bytes (command_with (λ bytes. bytes) result) ≡ true }
-        ensures no_free { is_free result ≡ false }
         ensures no_read { may_open result ≡ false }
+        ensures no_put { bytes_put result ≡ None }
     {
         match self {
             NameCommand::Delete { path } => Command::Delete { path },
@@ -50,11 +52,12 @@ impl NameCommand {
             NameCommand::Unpin { path } => Command::Unpin { path },
             NameCommand::List { path } => Command::List { path },
             NameCommand::Stat { path } => Command::Stat { path },
+            NameCommand::Free { path } => Command::Free { path },
         }
     }
 }
 
-/// Asks of names: one call, which is answered as the history determines.
+/// Asks so: one call, which is answered as the history determines.
 pub fn ask(
     alloc: Global,
     cluster: &mut Cluster<MemTicket>,

@@ -37,7 +37,7 @@ use Rattle.tl_core.specs.Residents.{Residents}
 use Rattle.tl_core.specs.Puts.{KeptPut, kept_put, kept_by, as_saved, IsWhole}
 use Rattle.tl_core.specs.Room.{under_way}
 use Rattle.tl_core.specs.State.{Stands, IsHeld, IsSound, IsJobAt, undropped_judge}
-use Rattle.tl_core.specs.Called.{put_made, with_saved, is_free, IsFitting}
+use Rattle.tl_core.specs.Called.{put_made, with_saved, IsFitting}
 use Rattle.tl_core.proofs.Told.{plain-told}
 use Rattle.tl_core.proofs.Count.{under_way-few}
 use Rattle.tl_core.proofs.Held.{all-map}
@@ -48,13 +48,13 @@ same-reply : {T : Type 0} (events : List (Event T)) (command : Command T) (reply
     reply_same (reply_after (calls_of events) command) reply ≡ true
 same-reply events command reply is = ap (reply_same (reply_after (calls_of events) command)) is ∙ reply-same (reply_after (calls_of events) command)
 
-permitted : {T : Type 0} (header : Header) (events : List (Event T)) (actor : Actor) (command : Command T) (reply : Reply) →
+pub permitted : {T : Type 0} (header : Header) (events : List (Event T)) (actor : Actor) (command : Command T) (reply : Reply) →
     reply ≡ reply_after (calls_of events) command → actor.0 < 8 → is_idle (without_tickets events) actor ≡ true →
     is_permitted lawful_judge header events (without_tickets events) actor (Call command reply) ≡ true
 permitted header events actor command reply is client idle =
     and_from _ _ (and_from _ _ (and_from _ _ (lt-ltb actor.0 8 client) idle) refl) (same-reply events command reply is)
 
-told_permitted : {T : Type 0} (content : T → List ℕ) (header : Header) (events : List (Event T)) (actor : Actor) (command : Command T) (reply : Reply) →
+pub told_permitted : {T : Type 0} (content : T → List ℕ) (header : Header) (events : List (Event T)) (actor : Actor) (command : Command T) (reply : Reply) →
     reply ≡ reply_after (calls_of events) command → actor.0 < 8 → is_idle (without_tickets events) actor ≡ true → put_has_its_bytes (command_with content command) ≡ true →
     is_permitted (undropped_judge header) header (events_with content events) (without_tickets (events_with content events)) actor (Call (command_with content command) reply) ≡ true
 told_permitted content header events actor command reply is client idle bytes =
@@ -65,7 +65,7 @@ told_permitted content header events actor command reply is client idle bytes =
 
 -- ---- what a call leaves of what was known
 
-blocks-stay : {T : Type 0} (tells : Bool) (content : T → List ℕ) (header : Header) (events : List (Event T)) (residents : Residents) (spare room : ℕ) (actor : Actor) (command : Command T) (reply : Reply) →
+pub blocks-stay : {T : Type 0} (tells : Bool) (content : T → List ℕ) (header : Header) (events : List (Event T)) (residents : Residents) (spare room : ℕ) (actor : Actor) (command : Command T) (reply : Reply) →
     Stands tells content header events residents spare → reply ≡ reply_after (calls_of events) command →
     AllByRecursion (IsHeld tells content (record { actor = actor; act = Call command reply } ∷ events)) residents
 blocks-stay tells content header events residents spare room actor command reply s is =
@@ -87,7 +87,7 @@ blocks-stay tells content header events residents spare room actor command reply
     ))
     residents s.blocks
 
-sound-stays : {T : Type 0} (tells : Bool) (content : T → List ℕ) (header : Header) (events : List (Event T)) (residents : Residents) (spare room : ℕ) (actor : Actor) (command : Command T) (reply : Reply) →
+pub sound-stays : {T : Type 0} (tells : Bool) (content : T → List ℕ) (header : Header) (events : List (Event T)) (residents : Residents) (spare room : ℕ) (actor : Actor) (command : Command T) (reply : Reply) →
     Stands tells content header events residents spare → reply ≡ reply_after (calls_of events) command → IsFitting command →
     AllByRecursion IsSound (records (without_tickets (record { actor = actor; act = Call command reply } ∷ events)))
 sound-stays tells content header events residents spare room actor command reply s is fits =
@@ -96,7 +96,7 @@ sound-stays tells content header events residents spare room actor command reply
     all-append IsSound (records past) (record_made reply plain (names past)) s.sound
     (sound-made reply plain (names past) (length (records past)) (is ∙ sym (reply_after-with (λ _. tt) events command)) (fitting-plain (λ _. tt) command fits))
 
-jobs-stay : {T : Type 0} (tells : Bool) (content : T → List ℕ) (header : Header) (events : List (Event T)) (residents : Residents) (spare room : ℕ) (actor : Actor) (command : Command T) (reply : Reply) →
+pub jobs-stay : {T : Type 0} (tells : Bool) (content : T → List ℕ) (header : Header) (events : List (Event T)) (residents : Residents) (spare room : ℕ) (actor : Actor) (command : Command T) (reply : Reply) →
     Stands tells content header events residents spare → (a : Actor) (claim : OpenClaim) →
     open_claim (without_tickets (record { actor = actor; act = Call command reply } ∷ events)) a ≡ Some claim →
     IsJobAt (without_tickets (record { actor = actor; act = Call command reply } ∷ events)) claim.made
@@ -107,7 +107,7 @@ jobs-stay tells content header events residents spare room actor command reply s
 
 -- ---- a call that is no accepted put
 
-called_plain : {T : Type 0} (tells : Bool) (content : T → List ℕ) (header : Header) (events : List (Event T)) (residents : Residents) (spare room : ℕ) (actor : Actor) (command : Command T) (reply : Reply) →
+pub called_plain : {T : Type 0} (tells : Bool) (content : T → List ℕ) (header : Header) (events : List (Event T)) (residents : Residents) (spare room : ℕ) (actor : Actor) (command : Command T) (reply : Reply) →
     Stands tells content header events residents spare → reply ≡ reply_after (calls_of events) command → actor.0 < 8 → is_idle (without_tickets events) actor ≡ true →
     IsFitting command → (tells ≡ true → put_has_its_bytes (command_with content command) ≡ true) →
     owed_after_call (without_tickets events) actor reply command Nothing ≡ Nothing →
@@ -245,6 +245,10 @@ called_put tells content header events residents spare room actor path len diges
     }
 
 -- ---- any call but a free
+
+abbrev pub is_free : {T : Type 0} → Command T → Bool
+is_free (free path) = true
+is_free _ = false
 
 pub called : {T : Type 0} (tells : Bool) (content : T → List ℕ) (header : Header) (events : List (Event T)) (residents : Residents) (spare room : ℕ) (actor : Actor) (command : Command T) (reply : Reply) →
     Stands tells content header events residents spare → reply ≡ reply_after (calls_of events) command → actor.0 < 8 → is_idle (without_tickets events) actor ≡ true →

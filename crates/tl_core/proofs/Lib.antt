@@ -13,3 +13,4 @@ pub mod Calls
 pub mod KeptPuts
 pub mod Loading
 pub mod Facts
+pub mod Freeing

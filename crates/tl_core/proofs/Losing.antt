@@ -31,7 +31,7 @@ found-lost tells content events residents worker f held_all =
     (all-map (IsHeld tells content events) (λ r. r.block.file ≡ f → is_elsewhere worker r ≡ not (is_resident_on (without_tickets events) f worker))
     (λ r h same. ap (λ (w : Option WorkerId). not (is_at worker w)) (sym h.0 ∙ ap (place (without_tickets events)) same)) residents held_all)
 
-maps_either : {A : Type 0} (g : Resident → A) (b : Bool) (o : Option Resident) → option_map g (if not b then o else None) ≡ (if b then None else option_map g o)
+pub maps_either : {A : Type 0} (g : Resident → A) (b : Bool) (o : Option Resident) → option_map g (if not b then o else None) ≡ (if b then None else option_map g o)
 maps_either g true o = refl
 maps_either g false o = refl
 
@@ -49,7 +49,7 @@ elsewhere-stays worker here r false e is stays =
     ap (λ (w : Option WorkerId). if is_at worker w then None else w) is ∙ ap (λ b. if b then None else Some r.worker) e
 
 pub lost : {T : Type 0} (tells : Bool) (content : T → List ℕ) (header : Header) (events : List (Event T)) (residents : Residents) (spare room : ℕ)
-    (actor : Actor) (worker : WorkerId) → Stands tells content header events residents spare → worker.0 < header.workers → 50 ≤ room →
+    (actor : Actor) (worker : WorkerId) → Stands tells content header events residents spare → worker.0 < header.workers → 51 ≤ room →
     Stands tells content header (record { actor = actor; act = Lose worker } ∷ events) (filter (is_elsewhere worker) residents) (room - 1)
 lost tells content header events residents spare room actor worker s known enough =
     let past : Past = without_tickets events in

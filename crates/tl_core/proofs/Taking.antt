@@ -137,7 +137,7 @@ open-after false mine o claim past is own other = other is
 
 pub claimed : {T : Type 0} (tells : Bool) (content : T → List ℕ) (header : Header) (events : List (Event T)) (residents : Residents) (spare room : ℕ)
     (actor : Actor) (worker : WorkerId) (made : RecordId) → Stands tells content header events residents spare → Numbered (records (without_tickets events)) →
-    worker.0 < header.workers → may_claim (without_tickets events) actor ≡ true → next (without_tickets events) ≡ Some made → 50 ≤ room →
+    worker.0 < header.workers → may_claim (without_tickets events) actor ≡ true → next (without_tickets events) ≡ Some made → 51 ≤ room →
     Stands tells content header (record { actor = actor; act = Claim worker made } ∷ events) residents (room - 1)
 claimed tells content header events residents spare room actor worker made s n known idle is enough =
     let past : Past = without_tickets events in

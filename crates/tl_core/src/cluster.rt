@@ -20,7 +20,7 @@ use tl_types::NoMemory;
 
 // Enough room for one turn's events and for the ends of all that may be under way after it: sixteen
 // actors have a read, a claim and a save each at most.
-const ROOM: usize = 50;
+const ROOM: usize = 51;
 
 /// The journal of all that was done, and the blocks that are in the workers' memories. Contracts see
 /// the header, the events with the newest first, and the blocks.

@@ -7,8 +7,6 @@ mod incarnation;
 mod look;
 mod puts;
 mod resident;
-#[cfg(test)]
-mod tests;
 mod work;
 
 pub use cluster::Cluster;

@@ -1,7 +1,7 @@
 ghost use Rattle.std.specs.Prelude.{◌≡◌, ◌+◌, ◌<◌, ◌≤◌, ◌∷◌, ◌++◌, [], filter, vec_len, vec_capacity};
 ghost use Rattle.tl_types.specs.Same.{file_same};
 ghost use Rattle.std.specs.Option.{option_copied};
-ghost use Rattle.tl_core.specs.Residents.{found, is_elsewhere};
+ghost use Rattle.tl_core.specs.Residents.{file_held, found, is_elsewhere, is_other, without_file};
 ghost use Rattle.tl_core.specs.Brought.{with_block, with_blocks};
 
 use tl_types::{Block, FileId, Shared, WorkerId};
@@ -78,4 +78,30 @@ pub(crate) fn empty(residents: &mut Vec<Resident>, worker: WorkerId)
     ensures { residents.new.items ≡ filter (is_elsewhere worker) residents.old.items }
 {
     residents.retain(|resident| resident.worker != worker);
+}
+
+/// The file, if it is in some memory.
+pub(crate) fn file_held(residents: &[Resident], file: Option<FileId>) -> Option<FileId>
+    ensures { result ≡ file_held residents.now file }
+{
+    match file {
+        Some(file) if find(residents, file).is_some() => Some(file),
+        _ => None,
+    }
+}
+
+/// Takes a file away from each memory that it is in.
+pub(crate) fn take_out(residents: &mut Vec<Resident>, file: Option<FileId>)
+    ensures { residents.new.items ≡ without_file file residents.old.items }
+{
+    if let Some(file) = file {
+        take_file(residents, file);
+    }
+}
+
+// Takes the file away.
+fn take_file(residents: &mut Vec<Resident>, file: FileId)
+    ensures { residents.new.items ≡ filter (is_other file) residents.old.items }
+{
+    residents.retain(|resident| !is_output(Output::from(resident.block.get().file()), file));
 }

@@ -1,5 +1,6 @@
 ghost use Rattle.std.specs.Prelude.{◌≡◌, ◌+◌, ◌-◌, ◌<◌, ◌≤◌, ◌∷◌, [], length, reverse, IfOk, OnOk, OnErr};
-ghost use Rattle.tl_model.specs.History.{calls_of, record_made, reply_after};
+ghost use Rattle.tl_ledger.specs.Naming.{file_found, file_named};
+ghost use Rattle.tl_model.specs.History.{calls_of, names_of, record_made, reply_after};
 ghost use Rattle.tl_model.specs.Journal.{call_count, calls_in};
 ghost use Rattle.tl_model.specs.Namespace.{Names as NameList};
 ghost use Rattle.tl_names.specs.Answers.{HasFewOutputs};
@@ -9,8 +10,8 @@ use std::alloc::{AllocError, Global};
 use std::marker::Model;
 use tl_io::Ticket;
 use tl_model::{Act, Command, Event, Header, Journal, Reply};
-use tl_names::Names;
-use tl_types::{Actor, NoMemory, RecordId};
+use tl_names::{Found, Names};
+use tl_types::{Actor, FileId, NoMemory, Path, RecordId};
 
 /// The journal, and the names of its history in tables. Contracts see the header, the events with the newest first,
 /// and how many more may be appended without asking for memory.
@@ -86,6 +87,13 @@ impl<T: Ticket> Ledger<T> {
         self.journal.events()
     }
 
+    /// The file that a path names after this history.
+    pub fn file_named(&self, path: &Path) -> Option<FileId>
+        ensures { result ≡ file_named (names_of (calls_of self.now.events)) path.now }
+    {
+        file_found(self.names.resolve(path))
+    }
+
     /// Appends an event that is no call, for which there must be room.
     pub fn append(&mut self, event: Event<T>)
         requires room { 0 < self.old.spare }
@@ -123,6 +131,16 @@ impl<T: Ticket> Ledger<T> {
             act: Act::Call(command, reply),
         });
         Ok((number, answer))
+    }
+}
+
+// The file that was found, if it is one.
+fn file_found(found: Found) -> Option<FileId>
+    ensures { result ≡ file_found found }
+{
+    match found {
+        Found::File { file, .. } => Some(file),
+        _ => None,
     }
 }
 

@@ -17,7 +17,7 @@ use Rattle.tl_client.specs.Pieces.{Events, told, IsSaid, IsPut, IsRead, IsTried,
 use Rattle.tl_report.specs.Words.{transcript_line}
 use Rattle.tl_script.specs.declared.script.Line.{Line}
 use Rattle.tl_script.specs.declared.script.Op.{Op}
-use Rattle.tl_script.specs.declared.script.Op.TheVariants.{Put, Job, Read, Delete, Mkdir, Rename, Pin, Unpin, List as ListNames, Stat, Lose, Work}
+use Rattle.tl_script.specs.declared.script.Op.TheVariants.{Put, Job, Read, Delete, Mkdir, Rename, Pin, Unpin, List as ListNames, Stat, Free, Lose, Work}
 use Rattle.tl_script.specs.Places.{client_limit}
 use Rattle.tl_script.specs.Commands.{IsOp}
 
@@ -54,6 +54,7 @@ IsPiece header before after c (Pin path) said = IsSaid before after (client c) (
 IsPiece header before after c (Unpin path) said = IsSaid before after (client c) (command.Unpin path) said
 IsPiece header before after c (ListNames path) said = IsSaid before after (client c) (command.List path) said
 IsPiece header before after c (Stat path) said = IsSaid before after (client c) (command.Stat path) said
+IsPiece header before after c (Free path) said = IsSaid before after (client c) (command.Free path) said
 IsPiece header before after c (Lose lost) said =
     (said ≡ answer.Lost lost) × (after ≡ record { actor = client c; act = act.Lose lost } ∷ before)
 IsPiece header before after c (Work at n) said = IsWorked before after (client c) at n said

@@ -5,8 +5,6 @@ mod alone;
 mod play;
 mod reading;
 mod status;
-#[cfg(test)]
-mod tests;
 mod transcript;
 mod words;
 mod writing;

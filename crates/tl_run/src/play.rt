@@ -149,6 +149,7 @@ fn do_line(
         Op::Unpin { path } => ask(alloc, cluster, actor, NameCommand::Unpin { path }),
         Op::List { path } => ask(alloc, cluster, actor, NameCommand::List { path }),
         Op::Stat { path } => ask(alloc, cluster, actor, NameCommand::Stat { path }),
+        Op::Free { path } => ask(alloc, cluster, actor, NameCommand::Free { path }),
         Op::Lose { worker } => lose(cluster, actor, worker),
         Op::Work { worker, n } => work(alloc, cluster, depot, actor, worker, n),
     }

@@ -32,6 +32,7 @@ inner_verb header verb_is.Pin = tt
 inner_verb header verb_is.Unpin = tt
 inner_verb header verb_is.List = tt
 inner_verb header verb_is.Stat = tt
+inner_verb header verb_is.Free = tt
 inner_verb header verb_is.Lose = tt
 inner_verb header verb_is.Work = tt
 

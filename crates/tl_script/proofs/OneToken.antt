@@ -60,6 +60,7 @@ verb_leads verb.Pin rest = refl
 verb_leads verb.Unpin rest = refl
 verb_leads verb.List rest = refl
 verb_leads verb.Stat rest = refl
+verb_leads verb.Free rest = refl
 verb_leads verb.Lose rest = refl
 verb_leads verb.Work rest = refl
 

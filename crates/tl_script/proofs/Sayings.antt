@@ -17,7 +17,7 @@ use Rattle.tl_kind.specs.Written.{IsWithin, program_text}
 use Rattle.tl_model.specs.declared.header.Header.{Header}
 use Rattle.tl_model.specs.declared.command.Form.TheVariants as form
 use Rattle.tl_script.specs.declared.script.Op.{Op}
-use Rattle.tl_script.specs.declared.script.Op.TheVariants.{Put, Job, Read, Delete, Mkdir, Rename, Pin, Unpin, List as ListNames, Stat, Lose, Work}
+use Rattle.tl_script.specs.declared.script.Op.TheVariants.{Put, Job, Read, Delete, Mkdir, Rename, Pin, Unpin, List as ListNames, Stat, Free, Lose, Work}
 use Rattle.tl_script.specs.declared.word.Mark.{Mark}
 use Rattle.tl_script.specs.declared.word.Mark.TheVariants as mark_is
 use Rattle.tl_script.specs.declared.word.Verb.TheVariants as verb_is
@@ -216,6 +216,7 @@ walks_arguments header (Pin at) h = (end, refl, refl)
 walks_arguments header (Unpin at) h = (end, refl, refl)
 walks_arguments header (ListNames at) h = (end, refl, refl)
 walks_arguments header (Stat at) h = (end, refl, refl)
+walks_arguments header (Free at) h = (end, refl, refl)
 walks_arguments header (Lose worker) h = (end, when_true (nat_le 0 worker.0 && nat_lt worker.0 header.workers) end (within 0 header.workers worker.0 (omega arith) h), refl)
 walks_arguments header (Work worker n) h = (
   number_then 1 (count_limit + 1) end,
@@ -237,6 +238,7 @@ say_arguments header (Pin at) w h = (h, tt)
 say_arguments header (Unpin at) w h = (h, tt)
 say_arguments header (ListNames at) w h = (h, tt)
 say_arguments header (Stat at) w h = (h, tt)
+say_arguments header (Free at) w h = (h, tt)
 say_arguments header (Lose worker) w h = (omega (arith, h), tt)
 say_arguments header (Work worker n) w h = (omega (arith, h.0), (omega (arith, h.2), tt))
 

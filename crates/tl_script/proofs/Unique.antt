@@ -13,7 +13,7 @@ use Rattle.tl_model.specs.declared.command.Form.TheVariants as form
 use Rattle.tl_script.specs.declared.bad_kind.BadKind.{BadKind}
 use Rattle.tl_script.specs.declared.bad_kind.BadKind.TheVariants as bad
 use Rattle.tl_script.specs.declared.script.Op.{Op}
-use Rattle.tl_script.specs.declared.script.Op.TheVariants.{Put, Job, Read, Delete, Mkdir, Rename, Pin, Unpin, List as ListNames, Stat, Lose, Work}
+use Rattle.tl_script.specs.declared.script.Op.TheVariants.{Put, Job, Read, Delete, Mkdir, Rename, Pin, Unpin, List as ListNames, Stat, Free, Lose, Work}
 use Rattle.tl_script.specs.declared.script.ScriptError.{ScriptError}
 use Rattle.tl_script.specs.declared.script.ScriptError.TheVariants.{Bad, NoMemory}
 use Rattle.tl_script.specs.declared.word.Verb.{Verb}
@@ -204,6 +204,7 @@ same_op header (Pin at) (Pin at') h k e = let a : at ≡ at' = cc in ap Pin a
 same_op header (Unpin at) (Unpin at') h k e = let a : at ≡ at' = cc in ap Unpin a
 same_op header (ListNames at) (ListNames at') h k e = let a : at ≡ at' = cc in ap ListNames a
 same_op header (Stat at) (Stat at') h k e = let a : at ≡ at' = cc in ap Stat a
+same_op header (Free at) (Free at') h k e = let a : at ≡ at' = cc in ap Free a
 same_op header (Lose w) (Lose w') h k e = let a : w.0 ≡ w'.0 = cc in λ j. Lose (record { 0 = a j })
 same_op header (Work w n) (Work w' n') h k e = let a : w.0 ≡ w'.0 = cc in let b : n ≡ n' = cc in λ j. Work (record { 0 = a j }) (b j)
 same_op header op other h k e = let apart = same_shape op other e in absurd (cc)

@@ -10,7 +10,7 @@ use Rattle.tl_script.specs.declared.word.Mark.TheVariants as mark
 use Rattle.tl_script.specs.Words.{verb_text, mark_text, found_in}
 
 abbrev pub table : List (List ℕ × Verb)
-table = (codes "put", verb.Put) ∷ (codes "job", verb.Job) ∷ (codes "cat", verb.Cat) ∷ (codes "sum", verb.Sum) ∷ (codes "try", verb.Try) ∷ (codes "delete", verb.Delete) ∷ (codes "mkdir", verb.Mkdir) ∷ (codes "rename", verb.Rename) ∷ (codes "pin", verb.Pin) ∷ (codes "unpin", verb.Unpin) ∷ (codes "list", verb.List) ∷ (codes "stat", verb.Stat) ∷ (codes "lose", verb.Lose) ∷ (codes "work", verb.Work) ∷ []
+table = (codes "put", verb.Put) ∷ (codes "job", verb.Job) ∷ (codes "cat", verb.Cat) ∷ (codes "sum", verb.Sum) ∷ (codes "try", verb.Try) ∷ (codes "delete", verb.Delete) ∷ (codes "mkdir", verb.Mkdir) ∷ (codes "rename", verb.Rename) ∷ (codes "pin", verb.Pin) ∷ (codes "unpin", verb.Unpin) ∷ (codes "list", verb.List) ∷ (codes "stat", verb.Stat) ∷ (codes "free", verb.Free) ∷ (codes "lose", verb.Lose) ∷ (codes "work", verb.Work) ∷ []
 
 abbrev is_right : List ℕ × Verb → Bool
 is_right entry = bytes_eq entry.0 (verb_text entry.1)
@@ -45,6 +45,7 @@ every_verb verb.Pin = refl
 every_verb verb.Unpin = refl
 every_verb verb.List = refl
 every_verb verb.Stat = refl
+every_verb verb.Free = refl
 every_verb verb.Lose = refl
 every_verb verb.Work = refl
 
@@ -111,6 +112,7 @@ verb_no_space verb.Pin = refl
 verb_no_space verb.Unpin = refl
 verb_no_space verb.List = refl
 verb_no_space verb.Stat = refl
+verb_no_space verb.Free = refl
 verb_no_space verb.Lose = refl
 verb_no_space verb.Work = refl
 

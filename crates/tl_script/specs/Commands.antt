@@ -10,7 +10,7 @@ use Rattle.tl_model.specs.declared.header.Header.{Header}
 use Rattle.tl_model.specs.declared.command.Form.{Form}
 use Rattle.tl_model.specs.declared.command.Form.TheVariants as form
 use Rattle.tl_script.specs.declared.script.Op.{Op}
-use Rattle.tl_script.specs.declared.script.Op.TheVariants.{Put, Job, Read, Delete, Mkdir, Rename, Pin, Unpin, List as ListNames, Stat, Lose, Work}
+use Rattle.tl_script.specs.declared.script.Op.TheVariants.{Put, Job, Read, Delete, Mkdir, Rename, Pin, Unpin, List as ListNames, Stat, Free, Lose, Work}
 use Rattle.tl_script.specs.declared.script.ScriptError.{ScriptError}
 use Rattle.tl_script.specs.declared.script.ScriptError.TheVariants.{Bad, NoMemory}
 use Rattle.tl_script.specs.declared.word.Verb.{Verb}
@@ -38,6 +38,7 @@ verb_of (Pin at) = verb_is.Pin
 verb_of (Unpin at) = verb_is.Unpin
 verb_of (ListNames at) = verb_is.List
 verb_of (Stat at) = verb_is.Stat
+verb_of (Free at) = verb_is.Free
 verb_of (Lose worker) = verb_is.Lose
 verb_of (Work worker n) = verb_is.Work
 
@@ -68,6 +69,7 @@ arguments_of (Pin at) = a_path at ∷ []
 arguments_of (Unpin at) = a_path at ∷ []
 arguments_of (ListNames at) = a_path at ∷ []
 arguments_of (Stat at) = a_path at ∷ []
+arguments_of (Free at) = a_path at ∷ []
 arguments_of (Lose worker) = a_number worker.0 ∷ []
 arguments_of (Work worker n) = a_number worker.0 ∷ a_number n ∷ []
 
@@ -114,6 +116,7 @@ IsOp header (Pin at) = IsPath at
 IsOp header (Unpin at) = IsPath at
 IsOp header (ListNames at) = IsPath at
 IsOp header (Stat at) = IsPath at
+IsOp header (Free at) = IsPath at
 IsOp header (Lose worker) = worker.0 < header.workers
 IsOp header (Work worker n) = (worker.0 < header.workers) × (1 ≤ n) × (n ≤ count_limit)
 

@@ -92,6 +92,7 @@ after_verb header verb_is.Pin = path_then end
 after_verb header verb_is.Unpin = path_then end
 after_verb header verb_is.List = path_then end
 after_verb header verb_is.Stat = path_then end
+after_verb header verb_is.Free = path_then end
 after_verb header verb_is.Lose = number_then 0 header.workers end
 after_verb header verb_is.Work = number_then 0 header.workers (number_then 1 (count_limit + 1) end)
 

@@ -18,7 +18,7 @@ abbrev pub line_limit : ℕ
 line_limit = 65536
 
 abbrev pub worker_limit : ℕ
-worker_limit = 1
+worker_limit = 8
 
 abbrev pub capacity_limit : ℕ
 capacity_limit = 268435456

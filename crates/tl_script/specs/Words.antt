@@ -20,6 +20,7 @@ verb_text verb.Pin = codes "pin"
 verb_text verb.Unpin = codes "unpin"
 verb_text verb.List = codes "list"
 verb_text verb.Stat = codes "stat"
+verb_text verb.Free = codes "free"
 verb_text verb.Lose = codes "lose"
 verb_text verb.Work = codes "work"
 

@@ -119,6 +119,16 @@ fn stat(alloc: Global, text: &[u8]) -> Result<Op, Stop>
     Ok(Op::Stat { path })
 }
 
+// A freeing: its path.
+fn free(alloc: Global, text: &[u8]) -> Result<Op, Stop>
+    requires { EndsToken text.now }
+    ensures found { IfOk result (λ op. (header : Header) → AreArguments header verb_is.Free text.now op) }
+    ensures bad { IfErr result (StopsAs (Refused (path_then end) text.now)) }
+{
+    let path = last_path(alloc, text)?;
+    Ok(Op::Free { path })
+}
+
 // A renaming: the path of now, and the one of then.
 fn rename(alloc: Global, text: &[u8]) -> Result<Op, Stop>
     requires { EndsToken text.now }
@@ -177,6 +187,7 @@ fn arguments(alloc: Global, verb: Verb, text: &[u8], header: &Header) -> Result<
         Verb::Unpin => unpin(alloc, text),
         Verb::List => list(alloc, text),
         Verb::Stat => stat(alloc, text),
+        Verb::Free => free(alloc, text),
         Verb::Lose => lose(text, header.workers),
         Verb::Work => work(text, header.workers),
     }

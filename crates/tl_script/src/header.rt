@@ -9,7 +9,7 @@ use tl_model::Header;
 use tl_text::read_number;
 
 /// The greatest number of workers.
-const WORKER_LIMIT: u64 = 1;
+const WORKER_LIMIT: u64 = 8;
 
 /// The greatest capacity of a worker, in bytes.
 const CAPACITY_LIMIT: u64 = 268_435_456;

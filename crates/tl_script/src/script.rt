@@ -60,6 +60,10 @@ pub enum Op {
     Stat {
         path: Path,
     },
+    /// Takes a file out of the workers' memory.
+    Free {
+        path: Path,
+    },
     /// Loses a worker, with what is in its memory.
     Lose {
         worker: WorkerId,

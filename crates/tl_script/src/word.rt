@@ -18,6 +18,7 @@ pub(crate) enum Verb {
     Unpin,
     List,
     Stat,
+    Free,
     Lose,
     Work,
 }
@@ -31,7 +32,7 @@ pub(crate) enum Mark {
     Run,
 }
 
-const VERBS: [(&[u8], Verb); 14] = [
+const VERBS: [(&[u8], Verb); 15] = [
     (b"put", Verb::Put),
     (b"job", Verb::Job),
     (b"cat", Verb::Cat),
@@ -44,6 +45,7 @@ const VERBS: [(&[u8], Verb); 14] = [
     (b"unpin", Verb::Unpin),
     (b"list", Verb::List),
     (b"stat", Verb::Stat),
+    (b"free", Verb::Free),
     (b"lose", Verb::Lose),
     (b"work", Verb::Work),
 ];

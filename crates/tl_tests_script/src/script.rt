@@ -39,6 +39,7 @@ const READ: &[u8] = br#"0 put /a "hi"
 0 unpin /b
 0 list /
 0 stat /b
+0 free /b
 0 lose 0
 0 work 0 1
 0 work 0 1048576
@@ -61,7 +62,7 @@ const REFUSED: &[u8] = br#"2 8 stat /
 2 a
 2 -1 stat /
 3 0 
-3 0 free /a
+3 0 frees /a
 3 0 save 1
 3 0 collect 1
 3 0 peek /a
@@ -91,6 +92,9 @@ const REFUSED: &[u8] = br#"2 8 stat /
 5 0 cat 0 x
 4 0 cat 0 /a /b
 4 0 stat / 
+4 0 free
+5 0 free b
+4 0 free /a /b
 4 0 rename /a
 5 0 rename /a b
 4 0 rename /a /b /c
@@ -179,13 +183,37 @@ fn headers_are_refused(rt: HostRuntime) -> Result<(), Fail> {
     for text in [
         b"".as_slice(),
         b"\n",
-        b"tachyon 1 workers 2 capacity 100 hot 3\n",
+        b"tachyon 1 workers 0 capacity 100 hot 3\n",
+        b"tachyon 1 workers 9 capacity 100 hot 3\n",
+        b"tachyon 1 workers 01 capacity 100 hot 3\n",
         b"tachyon 1 workers 1 capacity 0 hot 3\n",
         b"tachyon 1 workers 1 capacity 268435457 hot 3\n",
         b"tachyon 1 workers 1 capacity 100 hot 4294967296\n",
         b"tachyon 1 workers 1 capacity 100 hot 3 \n",
     ] {
         assert_eq!(rt; refused(&parse(rt.alloc(), text)), Some((1, 1)));
+    }
+    Ok(())
+}
+
+// A worker that a line names is one of the header's.
+#[test]
+fn as_many_workers_as_the_header_says(rt: HostRuntime) -> Result<(), Fail> {
+    for (text, error) in [
+        (
+            b"tachyon 1 workers 8 capacity 100 hot 3\n0 lose 7\n0 work 7 1\n".as_slice(),
+            None,
+        ),
+        (
+            b"tachyon 1 workers 8 capacity 100 hot 3\n0 lose 8\n",
+            Some((2, 4)),
+        ),
+        (
+            b"tachyon 1 workers 2 capacity 100 hot 3\n0 work 2 1\n",
+            Some((2, 4)),
+        ),
+    ] {
+        assert_eq!(rt; refused(&parse(rt.alloc(), text)), error);
     }
     Ok(())
 }

@@ -5,9 +5,10 @@ ghost use Rattle.tl_model.specs.Actors.{is_idle};
 ghost use Rattle.tl_model.specs.Past.{command_with};
 ghost use Rattle.tl_model.specs.Rules.{put_has_its_bytes};
 ghost use Rattle.tl_core.specs.Answers.{past_of};
-ghost use Rattle.tl_core.specs.Called.{Called, IsFitting, is_free, put_made, bytes_put, made_of, with_saved};
+ghost use Rattle.tl_core.specs.Called.{Called, IsFitting, put_made, bytes_put, file_to_free, made_of, with_freed, with_saved};
 
 use crate::cluster::{Cluster, ROOM};
+use crate::resident::{file_held, take_out};
 use std::alloc::Global;
 use std::marker::Model;
 use tl_io::Ticket;
@@ -17,7 +18,7 @@ use tl_types::{Actor, Digest, FileId, NoMemory};
 
 impl<T: Ticket> Cluster<T> {
     /// Makes a client's call: answers its number in the history and its reply, and records it. An
-    /// accepted put is recorded as saved. `Free` is not served yet.
+    /// accepted put is recorded as saved. A free takes the file that it names out of the worker's memory, if it is in one.
     pub fn call(
         &mut self,
         alloc: Global,
@@ -28,14 +29,16 @@ impl<T: Ticket> Cluster<T> {
         requires idle { is_idle (past_of self.old) actor ≡ true }
         requires fitting { IsFitting command }
         requires bytes { T.tells ≡ true → put_has_its_bytes (command_with T.content command) ≡ true }
-        requires no_free { is_free command ≡ false }
         ensures ok { IfOk result (Called self.old self.new actor command) }
         ensures err { OnErr result (self.new ≡ self.old) }
     {
         self.journal.reserve(ROOM)?;
         let bytes = bytes_put(&command);
+        let freed = file_held(&self.residents, file_to_free(&self.journal, &command));
         let (number, reply) = self.journal.call(alloc, actor, command)?;
         record_saved(&mut self.journal, actor, made_of(&reply, bytes));
+        record_freed(&mut self.journal, actor, freed);
+        take_out(&mut self.residents, freed);
         Ok((number, reply))
     }
 }
@@ -99,6 +102,31 @@ fn made_of(reply: &Reply, bytes: Option<PutBytes>) -> Option<MadePut>
             digest: put.digest,
         }),
         _ => None,
+    }
+}
+
+// The file that a free names.
+fn file_to_free<T: Ticket>(journal: &Ledger<T>, command: &Command<T>) -> Option<FileId>
+    ensures { result ≡ file_to_free journal.now.events command.now }
+{
+    match command {
+        Command::Free { path } => journal.file_named(path),
+        _ => None,
+    }
+}
+
+// Records that a file was freed.
+fn record_freed<T: Ticket>(journal: &mut Ledger<T>, actor: Actor, freed: Option<FileId>)
+    requires { 1 ≤ journal.old.spare }
+    ensures events { journal.new.events ≡ with_freed actor freed journal.old.events }
+    ensures header { journal.new.header ≡ journal.old.header }
+    ensures spare { journal.old.spare ≤ journal.new.spare + 1 }
+{
+    if let Some(file) = freed {
+        journal.append(Event {
+            actor,
+            act: Act::Free(file),
+        });
     }
 }
 

@@ -58,7 +58,7 @@ invariant_of-self-in-None g c =
     let saved = subst (λ (s : State _). IsSavedBlock s c.args.block) (sym c.self.view_is) c.requires.saved in
     let val = subst (λ (s : State _). g.T.Ticket.tells ≡ true → c.args.block.outcome ≡ value (events_with g.T.Ticket.content s.events) c.args.block.file) (sym c.self.view_is) c.requires.value in
     let digests : c.digest-digest.result.0 ≡ digest_of c.args.block.outcome = c.digest-digest.ensures ∙ ap (λ (b : FileOutcome). digest_of b.outcome) c.get-in-None.ensures in
-    let room : 50 ≤ c.reserve-in-None.new.self.spare = c.in_ok-reserve-in-None-2.ensures.room in
+    let room : 51 ≤ c.reserve-in-None.new.self.spare = c.in_ok-reserve-in-None-2.ensures.room in
     let left : c.reserve-in-None.new.self.spare ≤ c.record_load.new.journal.spare + 2 = c.record_load.ensures.spare in
     let enough : 48 ≤ c.record_load.new.journal.spare = omega arith in
     carried g.T.Ticket.tells g.T.Ticket.content _ _ _ _ _ _ _ _ (c.record_load.ensures.header ∙ c.in_ok-reserve-in-None-2.ensures.header)
