@@ -335,6 +335,39 @@ fn claim_and_done(
     }
 }
 
+// Ends the job of an actor whose worker was lost, which another has taken up again meanwhile, and then the other's.
+// Answers how the first ended, the record and the incarnation of the second, and how that ended.
+fn ends_twice(
+    rt: &HostRuntime,
+    cluster: &mut Cluster<FalseTicket>,
+) -> Result<(Finish, (u32, u64), Finish), Fail> {
+    may_claim(cluster, Actor(8))?;
+    let Some(first) = cluster.claim(rt.alloc(), Actor(8), WorkerId(0))? else {
+        return Err(Fail::from("no job is next"));
+    };
+    cluster.lose(Actor(0), WorkerId(0))?;
+    may_claim(cluster, Actor(9))?;
+    let Some(second) = cluster.claim(rt.alloc(), Actor(9), WorkerId(0))? else {
+        return Err(Fail::from("no job is next"));
+    };
+    if first.core.get().program.outputs() != 1 || second.core.get().program.outputs() != 1 {
+        return Err(Fail::from("not one output"));
+    }
+    let again = (second.rec.0, second.incarnation);
+    let blocks = one_block(rt, first.rec, b"x")?;
+    let Ok(void) = cluster.done(first, blocks) else {
+        return Err(Fail::from("memory ran out"));
+    };
+    if !has(cluster, 4) {
+        return Err(Fail::from("something was recorded"));
+    }
+    let blocks = one_block(rt, second.rec, b"x")?;
+    match cluster.done(second, blocks) {
+        Ok(installed) => Ok((void, again, installed)),
+        Err(_) => Err(Fail::from("memory ran out")),
+    }
+}
+
 // Whether there are so many events.
 fn has(cluster: &Cluster<FalseTicket>, events: u64) -> bool {
     cluster.journal().len() == events
@@ -374,6 +407,16 @@ fn a_done_job_is_read(rt: HostRuntime) -> Result<(), Fail> {
     let finish = claim_and_done(&rt, &mut cluster, Actor(8), b"x")?;
     assert!(rt; finish == Finish::Installed && has(&cluster, 4));
     assert!(rt; finds_held(&mut cluster, b"x")? && has(&cluster, 5));
+    Ok(())
+}
+
+#[test]
+fn a_job_is_void_after_a_loss(rt: HostRuntime) -> Result<(), Fail> {
+    let mut cluster = Cluster::new(rt.alloc(), HEADER)?;
+    assert!(rt; submits(&rt, &mut cluster)?);
+    let (void, again, installed) = ends_twice(&rt, &mut cluster)?;
+    assert!(rt; void == Finish::Void { held: 0, now: 1 } && again == (0, 1));
+    assert!(rt; installed == Finish::Installed && has(&cluster, 5));
     Ok(())
 }
 
