@@ -1,0 +1,4 @@
+pub mod Drop
+pub mod Tasks
+pub mod Choice
+pub mod Many
