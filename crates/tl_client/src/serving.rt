@@ -1,10 +1,9 @@
 //! Serving a read whose file can be had at once.
 
-ghost use Rattle.std.specs.Prelude.{◌≡◌, ◌<◌, None, Some, IfOk, IfSome, OnErr};
+ghost use Rattle.std.specs.Prelude.{◌≡◌, ◌<◌, Some, IfOk, OnErr};
 ghost use Rattle.tl_model.specs.Actors.{OpenRead, open_read};
 ghost use Rattle.tl_core.specs.Answers.{past_of};
 ghost use Rattle.tl_client.specs.Pieces.{IsServedNow};
-ghost use Rattle.tl_client.specs.Rest.{NothingRuns, ReadEnds, SameReads, SameSaves};
 
 use crate::feeds::load_saved;
 use std::alloc::Global;

@@ -8,10 +8,8 @@ use std::alloc::Global;
 use std::marker::Model;
 use tl_model::{Answer, Form};
 use tl_report::transcript_line;
+use tl_script::CLIENT_LIMIT;
 use tl_types::NoMemory;
-
-// One more than the greatest number of a client.
-const CLIENTS: u8 = 8;
 
 /// A printed line, and the client whose command it answers.
 #[derive(Drop)]
@@ -51,7 +49,7 @@ pub(crate) fn transcript(alloc: Global, printed: &[Printed]) -> Result<Vec<u8>, 
     ensures { IfOk result (λ text. text.items ≡ transcript printed.now) }
 {
     let mut text = Vec::new(alloc);
-    for client in 0..CLIENTS {
+    for client in 0..CLIENT_LIMIT + 1 {
         append_client(&mut text, printed, client)?;
     }
     Ok(text)

@@ -16,3 +16,4 @@ mod word;
 pub use bad_kind::BadKind;
 pub use parsing::{parse, parse_op};
 pub use script::{Line, Op, Script, ScriptError};
+pub use token::CLIENT_LIMIT;

@@ -24,7 +24,7 @@ const SPACE: u8 = b' ';
 pub(crate) const PRIO_COUNT: u64 = PRIO_LIMIT as u64 + 1;
 
 /// The greatest number of a client.
-const CLIENT_LIMIT: u64 = 7;
+pub const CLIENT_LIMIT: u8 = 7;
 
 /// Whether a token ends where this text begins.
 fn ends_token(text: &[u8]) -> bool
@@ -104,7 +104,7 @@ pub(crate) fn client_at(front: &[u8]) -> Option<(u8, &[u8])>
     ensures within { IfSome result (λ r. r.0 ≤ client_limit) }
     ensures none { IfNone result ((n : ℕ) (rest : List ℕ) → n ≤ client_limit → ¬ Stands front.now (a_number n) rest) }
 {
-    let (number, rest) = number_at(front, 0, CLIENT_LIMIT + 1)?;
+    let (number, rest) = number_at(front, 0, u64::from(CLIENT_LIMIT) + 1)?;
     Some((number as u8, rest))
 }
 
