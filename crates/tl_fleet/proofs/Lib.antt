@@ -1,11 +1,14 @@
 pub mod Changes
 pub mod Events
 pub mod Files
+pub mod Found
+pub mod Incarnations
 pub mod Least
 pub mod Once
 pub mod Pasts
 pub mod Places
 pub mod Settles
 pub mod Several
+pub mod Sizes
 pub mod Sooner
 pub mod Steps

@@ -56,7 +56,7 @@ some_found : (n : ℕ) (o : Option FileOutcome) (rest : Option (WorkerId × File
 some_found n None rest later h = h
 some_found n (Some block) rest later h = refl
 
-found_some : (n : ℕ) (f : FileId) (ws : Workers) → list_any (has_file f) ws ≡ is_some (option_map worker_found (found_from n f ws))
+pub found_some : (n : ℕ) (f : FileId) (ws : Workers) → list_any (has_file f) ws ≡ is_some (option_map worker_found (found_from n f ws))
 found_some n f [] = refl
 found_some n f (w ∷ ws) = some_found n (block_of f w.store.blocks) (found_from (n + 1) f ws) (list_any (has_file f) ws) (found_some (n + 1) f ws)
 

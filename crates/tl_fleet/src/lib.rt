@@ -2,10 +2,16 @@
 //! bytes than it may.
 #![tactic(auto)]
 
+mod finds;
 mod fleet;
 mod laws;
 mod worker;
 
+pub use finds::{
+    a_brought_block_is_found, a_dropped_file_is_found_no_more, a_freed_file_is_found_no_more,
+    a_loss_takes_what_was_there, brought_blocks_are_found, it_is_of_the_file,
+    only_resident_sizes_matter, the_incarnation_rises_at_a_loss_alone, touching_moves_nothing,
+};
 pub use fleet::Fleet;
 pub use laws::{claim_keeps_order, done_keeps_order, other_events_keep_order};
 pub use tl_store::Excepted;
