@@ -136,7 +136,7 @@ fn lines_are_read(rt: HostRuntime) -> Result<(), Fail> {
     let script = parse(rt.alloc(), text.as_slice());
     assert_eq!(rt; refused(&script), None);
     let script = script?;
-    assert_eq!(rt; script.lines.len(), 24);
+    assert_eq!(rt; script.lines.len(), 25);
     assert_eq!(rt; script.lines.last().map(|line| line.number), Some(28));
     Ok(())
 }
