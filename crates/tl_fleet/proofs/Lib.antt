@@ -12,3 +12,4 @@ pub mod Several
 pub mod Sizes
 pub mod Sooner
 pub mod Steps
+pub mod Together

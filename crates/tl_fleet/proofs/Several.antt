@@ -85,7 +85,7 @@ pub at_each : (s : Sight) (f : FileId) (sizes : Sizes) (header : Header) (n : �
 at_each s f sizes header n [] e h = refl
 at_each s f sizes header n (w ∷ ws) e h = ap (λ b. b || list_any (has_file f) ws) (h.0.1.resident f ∙ ap (is_at (number n)) e) ∙ at_each s f sizes header (n + 1) ws e h.1
 
-not_same : (g f : FileId) → file_cmp g f ≡ Less → file_same f g ≡ false
+pub not_same : (g f : FileId) → file_cmp g f ≡ Less → file_same f g ≡ false
 not_same g f l = elim (either (file_same f g)) [
   | inl t ↦ let at : f ≡ g = same_is f g t in absurd (lesser_asym g g (ap (file_cmp g) (sym at) ∙ l) (ap (file_cmp g) (sym at) ∙ l))
   | inr t ↦ t

@@ -1,3 +1,4 @@
 pub mod Workers
 pub mod Order
 pub mod Events
+pub mod Installs

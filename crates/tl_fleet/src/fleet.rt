@@ -1,16 +1,20 @@
-ghost use Rattle.std.specs.Prelude.{◌≡◌, ◌+◌, ◌<◌, ◌≤◌, ◌^◌, ◌-◌, ◌==◌, false, [], Some, length, slice_get, is_some, IfSome, IfOk, IfErr, OnOk, OnErr};
+ghost use Rattle.std.specs.Prelude.{◌≡◌, ◌+◌, ◌<◌, ◌≤◌, ◌^◌, ◌-◌, ◌==◌, ◌&&◌, false, is_none, [], Some, length, slice_get, is_some, IfSome, IfOk, IfErr, OnOk, OnErr};
+ghost use Rattle.std.specs.List.{AllByRecursion};
 ghost use Rattle.std.specs.Option.{option_map};
 ghost use Rattle.tl_fleet.specs.Workers.{IsOnce, new_workers, is_resident, found, found_block, worker_found, installed, all_touched, all_without, lost, first_to_drop, dropped, incarnation_of, changed_at, with_blocks, put_front, emptied, to_drop};
-ghost use Rattle.tl_fleet.specs.Order.{IsNumbered, IsOfFile, ExceptsBy, StandsInOrder, due, sight_of};
-ghost use Rattle.tl_fleet.specs.Events.{after_load, after_served, after_free, after_drop, after_loss};
+ghost use Rattle.tl_fleet.specs.Order.{Ascends, IsNumbered, IsOfFile, ExceptsBy, StandsInOrder, due, sight_of};
+ghost use Rattle.tl_fleet.specs.Events.{after_load, after_done, after_served, after_free, after_drop, after_loss, among, files_of, installed_each};
 ghost use Rattle.tl_types.specs.declared.actor.Actor.{Actor as By};
 ghost use Rattle.tl_types.specs.declared.digest.Digest.{Digest as Sum};
+ghost use Rattle.tl_types.specs.declared.record_id.RecordId.{RecordId};
 ghost use Rattle.tl_model.specs.Eviction.{Sizes};
+ghost use Rattle.tl_model.specs.History.{is_output};
 ghost use Rattle.tl_model.specs.Past.{Past};
 ghost use Rattle.tl_model.specs.Residency.{place};
 ghost use Rattle.tl_model.specs.declared.header.Header.{Header};
-ghost use Rattle.tl_store.specs.Contents.{without};
+ghost use Rattle.tl_store.specs.Contents.{block_size, without};
 
+use crate::installs::install_copies;
 use crate::worker::Worker;
 use std::alloc::Global;
 use std::marker::Model;
@@ -81,6 +85,31 @@ impl Fleet {
             IsOfFile sizes (sight_of past) block → OnOk result (StandsInOrder sizes header (after_load actor w block.file past) self.new) }
     {
         install_at(&mut self.workers, w.0 as usize, block)
+    }
+
+    /// Puts blocks in front at `w`, one after another, so that the last is in front: those of ascending
+    /// files that are on no worker, as a done job brings them. `Err` is want of memory; it hands the
+    /// blocks back, and nothing changed.
+    pub fn install_all(
+        &mut self,
+        w: WorkerId,
+        blocks: Vec<Shared<Block>>,
+    ) -> Result<(), Vec<Shared<Block>>>
+        requires worker { w.0 < length self.old }
+        requires absent { AllByRecursion (λ block. is_resident block.file self.old ≡ false) blocks.items }
+        requires ascending { Ascends (files_of blocks.items) }
+        ensures ok { OnOk result (self.new ≡ installed_each w blocks.items self.old) }
+        ensures err { OnErr result (self.new ≡ self.old) }
+        ensures back { IfErr result (λ back. back ≡ blocks) }
+        ensures stands { (sizes : Sizes) (header : Header) (past : Past) (actor : By) (made : RecordId) → StandsInOrder sizes header past self.old →
+            ((f : FileId) → among f (files_of blocks.items) ≡ (is_output past f made && is_none (place past f))) →
+            AllByRecursion (λ block. block_size block ≡ sizes block.file) blocks.items →
+            OnOk result (StandsInOrder sizes header (after_done actor w made past) self.new) }
+    {
+        match install_copies(&mut self.workers, w, &blocks) {
+            Ok(()) => Ok(()),
+            Err(_) => Err(blocks),
+        }
     }
 
     /// The worker that has a file, and the block; `None` where no worker has it. The order stays.
@@ -157,7 +186,11 @@ impl Fleet {
 }
 
 // Puts a block in front at a worker.
-fn install_at(workers: &mut [Worker], w: usize, block: Shared<Block>) -> Result<(), Shared<Block>>
+pub(crate) fn install_at(
+    workers: &mut [Worker],
+    w: usize,
+    block: Shared<Block>,
+) -> Result<(), Shared<Block>>
     requires worker { w < length workers.old }
     requires absent { is_resident block.file workers.old ≡ false }
     ensures ok { OnOk result (workers.new ≡ changed_at w (with_blocks (put_front block)) workers.old) }
@@ -187,7 +220,7 @@ fn empty(worker: &mut Worker)
 }
 
 // Takes a file out of a worker.
-fn remove_at(workers: &mut [Worker], w: usize, f: FileId)
+pub(crate) fn remove_at(workers: &mut [Worker], w: usize, f: FileId)
     requires worker { w < length workers.old }
     ensures { workers.new ≡ changed_at w (with_blocks (without f)) workers.old }
 {

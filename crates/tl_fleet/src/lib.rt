@@ -4,6 +4,7 @@
 
 mod finds;
 mod fleet;
+mod installs;
 mod laws;
 mod worker;
 
