@@ -137,7 +137,7 @@ fn lines_are_read(rt: HostRuntime) -> Result<(), Fail> {
     assert_eq!(rt; refused(&script), None);
     let script = script?;
     assert_eq!(rt; script.lines.len(), 25);
-    assert_eq!(rt; script.lines.last().map(|line| line.number), Some(28));
+    assert_eq!(rt; script.lines.last().map(|line| line.number), Some(29));
     Ok(())
 }
 
