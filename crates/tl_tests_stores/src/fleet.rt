@@ -1,18 +1,29 @@
+ghost use Rattle.std.specs.Prelude.{◌≡◌, IfOk};
+
 use std::test::Fail;
 use tl_fleet::{Excepted, Fleet};
 use tl_types::{Block, Bytes, FileId, Outcome, RecordId, Shared, WorkerId};
 
-fn file(n: u32) -> FileId {
+fn file(n: u32) -> FileId
+    ensures { result ≡ record { rec = record { 0 = n }; out = 0 } }
+{
     FileId {
         rec: RecordId(n),
         out: 0,
     }
 }
 
+// A file's block of two bytes.
+fn block_of(rt: &HostRuntime, n: u32) -> Result<Shared<Block>, Fail>
+    ensures { IfOk result (λ block. block.file ≡ record { rec = record { 0 = n }; out = 0 }) }
+{
+    let bytes = Bytes::new([7, 7].to_vec(rt.alloc())?).ok_or("short")?;
+    Ok(Shared::new(rt.alloc(), Block::new(file(n), Outcome::Value(bytes)))?)
+}
+
 // Whether a block of two bytes of a new file was installed.
 fn install(rt: &HostRuntime, fleet: &mut Fleet, w: u8, n: u32) -> Result<bool, Fail> {
-    let bytes = Bytes::new([7, 7].to_vec(rt.alloc())?).ok_or("short")?;
-    let block = Shared::new(rt.alloc(), Block::new(file(n), Outcome::Value(bytes)))?;
+    let block = block_of(rt, n)?;
     let worker = WorkerId(w);
     if (w as usize) >= fleet.len() {
         return Ok(false);
@@ -21,6 +32,19 @@ fn install(rt: &HostRuntime, fleet: &mut Fleet, w: u8, n: u32) -> Result<bool, F
         return Ok(false);
     }
     Ok(fleet.install(worker, block).is_ok())
+}
+
+// A fleet of one worker that may have no bytes, to which the blocks of files 1, 2 and 3 came at once.
+fn three_at_once(rt: &HostRuntime) -> Result<Fleet, Fail> {
+    let mut fleet = Fleet::new(rt.alloc(), 1, 0)?;
+    let mut blocks = Vec::new(rt.alloc());
+    blocks.push(block_of(rt, 1)?)?;
+    blocks.push(block_of(rt, 2)?)?;
+    blocks.push(block_of(rt, 3)?)?;
+    match fleet.install_all(WorkerId(0), blocks) {
+        Ok(()) => Ok(fleet),
+        Err(_) => Err(Fail::from("memory ran out")),
+    }
 }
 
 // The files below a number.
@@ -56,6 +80,19 @@ fn files_come_and_go(rt: HostRuntime) -> Result<(), Fail> {
     assert!(rt; fleet.find(file(2)).is_none());
     fleet.free(file(1));
     assert!(rt; !fleet.is_resident(file(1)));
+    Ok(())
+}
+
+#[test]
+fn blocks_come_at_once(rt: HostRuntime) -> Result<(), Fail> {
+    let mut fleet = three_at_once(&rt)?;
+    for n in 1..4 {
+        assert_eq!(rt; fleet.find(file(n)).map(|found| found.0), Some(WorkerId(0)));
+    }
+    for n in 1..4 {
+        assert_eq!(rt; fleet.settle_one(&Below(0)), Some((WorkerId(0), file(n))));
+    }
+    assert_eq!(rt; fleet.settle_one(&Below(0)), None);
     Ok(())
 }
 
