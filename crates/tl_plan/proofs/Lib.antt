@@ -1,0 +1,8 @@
+pub mod Changes
+pub mod Lists
+pub mod Looking
+pub mod Marks
+pub mod Noting
+pub mod Steps
+pub mod Tabling
+pub mod Within
