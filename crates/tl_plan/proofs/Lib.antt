@@ -5,4 +5,3 @@ pub mod Marks
 pub mod Noting
 pub mod Steps
 pub mod Tabling
-pub mod Within

@@ -15,16 +15,15 @@ use Rattle.tl_model.specs.Plan.{can_run, has_id, is_awaited, is_ready, is_task, 
 use Rattle.tl_laws.specs.Numbers.{below_or_not}
 use Rattle.tl_laws.specs.Made.{HasMadeInputs, IsOutputOf}
 use Rattle.tl_laws.specs.Order.{among-holds}
+use Rattle.tl_steps.specs.Steps.{is_read_at, is_running_at}
+use Rattle.tl_steps.specs.Within.{IsWithin}
+use Rattle.tl_steps.proofs.Lists.{get_map, get_map_none}
+use Rattle.tl_steps.proofs.Files.{not-true}
+use Rattle.tl_steps.proofs.Seats.{read-same, running-same}
 use Rattle.tl_plan.specs.declared.output.Output.{Output}
-use Rattle.tl_plan.specs.Data.{PlanData, awaited_at, file_at, here_at, is_read_at, is_running_at, place_at, ready_of, row_at, row_or_none, task_of}
-use Rattle.tl_plan.specs.Standing.{IsWithin, StandsFor, files_with, job_in, output_with, outputs_with}
-use Rattle.tl_plan.proofs.Lists.{get_map, get_map_none}
+use Rattle.tl_plan.specs.Data.{PlanData, awaited_at, file_at, here_at, place_at, ready_of, row_at, row_or_none, task_of}
+use Rattle.tl_plan.specs.Standing.{StandsFor, files_with, job_in, output_with, outputs_with}
 use Rattle.tl_plan.proofs.Marks.{StartsAt, starts}
-use Rattle.tl_plan.proofs.Tabling.{read-same, running-same}
-
-not-true : (b : Bool) → (b ≡ true → ⊥) → b ≡ false
-not-true true never = absurd (never refl)
-not-true false never = refl
 
 -- ---- records
 

@@ -9,6 +9,7 @@ use Rattle.tl_model.specs.Past.{Past}
 use Rattle.tl_model.specs.History.{files_from, id_of, output_count}
 use Rattle.tl_model.specs.Residency.{is_saved, place}
 use Rattle.tl_laws.specs.Numbers.{Numbered}
+use Rattle.tl_steps.proofs.Files.{not-true}
 use Rattle.tl_plan.specs.declared.output.Output.{Output}
 use Rattle.tl_plan.specs.Data.{all_awaited, awaited, changed_at}
 use Rattle.tl_plan.specs.Standing.{files_with, output_with}
@@ -27,10 +28,6 @@ starts-from n (r ∷ rs) h = (
 
 pub starts : (rs : List Record) → Numbered rs → StartsAt 0 rs
 starts rs numbered = starts-from 0 rs (λ i r at. let e : (id_of r).0 ≡ i = ap (λ (id : RecordId). id.0) (numbered i r at) in omega arith)
-
-not-true : (b : Bool) → (b ≡ true → ⊥) → b ≡ false
-not-true true never = absurd (never refl)
-not-true false never = refl
 
 other-out : (id : RecordId) (j : ℕ) (f : FileId) → (j ≡ f.out → ⊥) → file_same (record { rec = id; out = j }) f ≡ false
 other-out id j f differs = not-true (file_same (record { rec = id; out = j }) f) (λ t. differs (ap (λ (g : FileId). g.out) ((file_same-Decides (record { rec = id; out = j }) f).0 t)))

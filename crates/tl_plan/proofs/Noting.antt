@@ -14,16 +14,20 @@ use Rattle.tl_model.specs.History.{files_at, names, record_made, records}
 use Rattle.tl_model.specs.Actors.{actors}
 use Rattle.tl_model.specs.Plan.{is_awaited, tasks}
 use Rattle.tl_laws.specs.Numbers.{Numbered}
+use Rattle.tl_steps.specs.Steps.{new_seat, seat_after, next_of, added}
+use Rattle.tl_steps.specs.Within.{IsWithin}
+use Rattle.tl_steps.proofs.Lists.{map_append}
+use Rattle.tl_steps.proofs.Files.{after}
+use Rattle.tl_steps.proofs.Seats.{seats_of, seats-after}
+use Rattle.tl_steps.proofs.Within.{within-empty}
 use Rattle.tl_plan.specs.declared.job.Job.{Job}
 use Rattle.tl_plan.specs.declared.kept.Kept.{Kept}
 use Rattle.tl_plan.specs.declared.output.Output.{Output}
-use Rattle.tl_plan.specs.Data.{PlanData, job_after, new_seat, next_of, outputs_after, plan_after, seat_after, tables_from, with_files, with_job}
-use Rattle.tl_plan.specs.Standing.{HasRoomForAll, IsWithin, StandsFor, added, files_with, kept_of, outputs_with}
-use Rattle.tl_plan.proofs.Lists.{map_append}
+use Rattle.tl_plan.specs.Data.{PlanData, job_after, outputs_after, plan_after, tables_from, with_files, with_job}
+use Rattle.tl_plan.specs.Standing.{HasRoomForAll, StandsFor, files_with, kept_of, outputs_with}
 use Rattle.tl_plan.proofs.Marks.{starts}
-use Rattle.tl_plan.proofs.Tabling.{fresh, no_file, seats_of, tables-same}
-use Rattle.tl_plan.proofs.Within.{within-empty}
-use Rattle.tl_plan.proofs.Changes.{after, files-after, job-new, jobs-after, outputs-new, seats-after}
+use Rattle.tl_plan.proofs.Tabling.{fresh, no_file, tables-same}
+use Rattle.tl_plan.proofs.Changes.{files-after, job-new, jobs-after, outputs-new}
 
 -- what stands before the tables are made
 abbrev Ready : Past → Option Kept → List Job → List (List Output) → Type 0

@@ -2,7 +2,7 @@
 use Rattle.std.proofs.Common.{◌≡◌, ◌∙◌, arith, ℕ, zero, suc, ◌+◌, ◌<◌, List, [], ◌∷◌, length, slice_get, get_or, Option, Some, None, refl, ap}
 use Rattle.tl_plan.specs.declared.job.Job.{Job}
 use Rattle.tl_plan.specs.declared.output.Output.{Output}
-use Rattle.tl_plan.specs.declared.seat.Seat.{Seat}
+use Rattle.tl_steps.specs.declared.seat.Seat.{Seat}
 use Rattle.tl_plan.specs.Data.{step_at, step_on, table_step, tables_from}
 
 abbrev Made : Type 0

@@ -2,24 +2,21 @@
 use Rattle.std.proofs.Common.{◌≡◌, ◌∙◌, arith, ℕ, suc, ◌+◌, Bool, true, false, ◌&&◌, ◌||◌, not, if◌then◌else◌, List, [], ◌∷◌, map, slice_get, Some, refl, sym, ap}
 use Rattle.std.specs.List.{list_any}
 use Rattle.tl_types.specs.declared.file_id.FileId.{FileId}
-use Rattle.tl_types.specs.declared.record_id.RecordId.{RecordId}
 use Rattle.tl_model.specs.declared.record.Record.{Record}
 use Rattle.tl_model.specs.Past.{Past}
 use Rattle.tl_model.specs.Tables.{Table, downward}
 use Rattle.tl_model.specs.History.{has_input, id_of, inputs_of, is_job, outputs_of, records}
-use Rattle.tl_model.specs.Actors.{actors, claims_record, is_read, is_running, reads_file}
+use Rattle.tl_model.specs.Actors.{is_running}
 use Rattle.tl_model.specs.Residency.{is_saved, is_resident, was_done}
 use Rattle.tl_model.specs.Plan.{is_awaited, lacks, task_among, tasks}
+use Rattle.tl_steps.proofs.Lists.{any_map, get_map}
+use Rattle.tl_steps.proofs.Seats.{seats_of, read-same, running-same}
 use Rattle.tl_plan.specs.declared.job.Job.{Job}
 use Rattle.tl_plan.specs.declared.output.Output.{Output}
-use Rattle.tl_plan.specs.declared.seat.Seat.{Seat}
-use Rattle.tl_plan.specs.Data.{all_awaited, files_after, is_lacking, is_read_at, is_running_at, is_task_now, row_at, row_or_none, tables_from, with_task}
-use Rattle.tl_plan.specs.Standing.{files_with, job_in, output_with, outputs_with, seat_of}
-use Rattle.tl_plan.proofs.Lists.{any_map, get_map}
+use Rattle.tl_steps.specs.declared.seat.Seat.{Seat}
+use Rattle.tl_plan.specs.Data.{all_awaited, files_after, is_lacking, is_task_now, row_at, row_or_none, tables_from, with_task}
+use Rattle.tl_plan.specs.Standing.{files_with, job_in, output_with, outputs_with}
 use Rattle.tl_plan.proofs.Marks.{StartsAt, all-marked}
-
-abbrev pub seats_of : Past → List Seat
-seats_of past = map (seat_of past) actors
 
 -- a record before the tables are made
 abbrev pub fresh : Past → Record → Job
@@ -27,12 +24,6 @@ fresh past r = job_in past (r, false)
 
 abbrev pub no_file : FileId → Bool
 no_file f = false
-
-pub read-same : (past : Past) (f : FileId) → is_read_at (seats_of past) f ≡ is_read past f
-read-same past f = any_map (λ (seat : Seat). reads_file f seat.read) (seat_of past) actors
-
-pub running-same : (past : Past) (made : RecordId) → is_running_at (seats_of past) made ≡ is_running past made
-running-same past made = any_map (λ (seat : Seat). claims_record made seat.claim) (seat_of past) actors
 
 lacking-same : (past : Past) (table : Table Record Bool) (f : FileId) → is_lacking (seats_of past) (output_with past (is_awaited past table) f) ≡ lacks past table f
 lacking-same past table f = ap (λ b. (b || is_awaited past table f) && not (is_resident past f || is_saved past f)) (read-same past f)

@@ -1,23 +1,17 @@
 -- How what the plan keeps stands for a past.
-use Rattle.std.specs.Prelude.{◌≡◌, ◌<◌, Bool, true, false, List, [], ◌∷◌, length, map, Some, is_some}
-use Rattle.std.specs.List.{AllByRecursion}
-use Rattle.tl_types.specs.declared.actor.Actor.{Actor}
+use Rattle.std.specs.Prelude.{◌≡◌, Bool, false, List, [], ◌∷◌, map, Some}
 use Rattle.tl_types.specs.declared.file_id.FileId.{FileId}
-use Rattle.tl_types.specs.declared.record_id.RecordId.{RecordId}
-use Rattle.tl_model.specs.declared.event.Act.{Act}
-use Rattle.tl_model.specs.declared.event.Act.TheVariants.{Call}
 use Rattle.tl_model.specs.declared.record.Record.{Record}
 use Rattle.tl_model.specs.Past.{Past}
-use Rattle.tl_model.specs.History.{id_of, inputs_of, is_job, names, outputs_of, record_made, records}
-use Rattle.tl_model.specs.Actors.{OpenClaim, actors, open_claim, open_read, open_save}
-use Rattle.tl_model.specs.Residency.{is_saved, place, saved_as, was_done}
+use Rattle.tl_model.specs.History.{id_of, inputs_of, is_job, outputs_of, records}
+use Rattle.tl_model.specs.Actors.{actors}
+use Rattle.tl_model.specs.Residency.{is_saved, place, was_done}
 use Rattle.tl_model.specs.Plan.{is_awaited, tasks}
-use Rattle.tl_laws.specs.Numbers.{Numbered}
-use Rattle.tl_laws.specs.Made.{HasMadeInputs, IsOutputOf}
+use Rattle.tl_steps.specs.Steps.{seat_of}
+use Rattle.tl_steps.specs.Within.{IsWithin}
 use Rattle.tl_plan.specs.declared.job.Job.{Job}
 use Rattle.tl_plan.specs.declared.kept.Kept.{Kept}
 use Rattle.tl_plan.specs.declared.output.Output.{Output}
-use Rattle.tl_plan.specs.declared.seat.Seat.{Seat}
 use Rattle.tl_plan.specs.Data.{PlanData, new_output}
 
 -- ---- the past
@@ -41,19 +35,6 @@ outputs_with past awaits r = map (output_with past awaits) (outputs_of r)
 
 abbrev pub files_with : Past → (FileId → Bool) → List Record → List (List Output)
 files_with past awaits rs = map (outputs_with past awaits) rs
-
-abbrev pub seat_of : Past → Actor → Seat
-seat_of past actor = record { actor = actor; read = open_read past actor; claim = open_claim past actor }
-
--- what is known of each journal whose events are permitted: all that it speaks of was accepted
-pub record IsWithin (past : Past) : Type 0 where
-  pub numbered : Numbered (records past)
-  pub inputs : AllByRecursion (HasMadeInputs (records past)) (records past)
-  pub placed : (f : FileId) → is_some (place past f) ≡ true → IsOutputOf (records past) f
-  pub saved : (f : FileId) → is_some (saved_as past f) ≡ true → IsOutputOf (records past) f
-  pub saves : (actor : Actor) (f : FileId) → open_save past actor ≡ Some f → IsOutputOf (records past) f
-  pub claims : (actor : Actor) (claim : OpenClaim) → open_claim past actor ≡ Some claim → claim.made.0 < length (records past)
-  pub done : (made : RecordId) → was_done past made ≡ true → made.0 < length (records past)
 
 -- The data stand for a past: they have each accepted record with whether it was done and whether it is a task, each file with
 -- where it is, whether it is saved and whether a task that isn't running has it as input, and what each actor has open.
@@ -79,8 +60,3 @@ HasRoom plan r = plan.next ≡ Some (kept_of r)
 abbrev pub HasRoomForAll : PlanData → List Record → Type 0
 HasRoomForAll plan [] = Unit {0}
 HasRoomForAll plan (r ∷ rs) = HasRoom plan r
-
--- the record that an act adds after a past, if it adds one
-abbrev pub added : Past → Act (Unit {0}) → List Record
-added past (Call command reply) = record_made reply command (names past)
-added past _ = []

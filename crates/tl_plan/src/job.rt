@@ -2,11 +2,10 @@
 
 ghost use Rattle.std.specs.Prelude.{◌≡◌, map};
 ghost use Rattle.tl_model.specs.Past.{act_with};
-ghost use Rattle.tl_model.specs.Residency.{does};
 ghost use Rattle.tl_plan.specs.Data.{job_after};
 
-use crate::same::same_record;
 use tl_model::Act;
+use tl_steps::does;
 use tl_types::{FileId, Items, RecordId};
 
 /// An accepted put or job.
@@ -35,14 +34,4 @@ fn note_job<T>(job: &mut Job, act: &Act<T>)
 {
     job.was_done = does(job.made, act) || job.was_done;
     job.is_task = false;
-}
-
-// Whether the act says that the job was done.
-fn does<T>(made: RecordId, act: &Act<T>) -> bool
-    ensures { result ≡ does made (act_with (λ _. tt) act.now) }
-{
-    match act {
-        Act::Done(_, other) => same_record(made, *other),
-        _ => false,
-    }
 }

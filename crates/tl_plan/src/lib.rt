@@ -4,13 +4,9 @@
 
 mod job;
 mod kept;
-mod laws;
 mod output;
 mod outputs;
 mod plan;
-mod same;
-mod seat;
 mod tables;
 
-pub use laws::journals_speak_of_the_accepted;
 pub use plan::Plan;

@@ -8,10 +8,10 @@ ghost use Rattle.tl_model.specs.History.{files_from};
 ghost use Rattle.tl_plan.specs.Data.{all_awaited, awaited, changed_at, is_lacking, new_output, outputs_after, with_awaited};
 
 use crate::output::{Output, awaited, is_lacking, new_output, output_after};
-use crate::seat::Seat;
 use std::alloc::Global;
 use std::marker::Model;
 use tl_model::Act;
+use tl_steps::Seat;
 use tl_types::{FileId, NoMemory, RecordId};
 
 /// The files that a record makes, in order. Contracts see them as a list.

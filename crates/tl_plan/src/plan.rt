@@ -6,18 +6,19 @@ ghost use Rattle.tl_model.specs.declared.header.Header.{Header as HeaderOf};
 ghost use Rattle.tl_model.specs.Past.{Past, act_with, event_with, without_tickets};
 ghost use Rattle.tl_model.specs.Rules.{all_permitted, lawful_judge};
 ghost use Rattle.tl_model.specs.Residency.{is_available, place};
-ghost use Rattle.tl_plan.specs.Data.{accepts, awaited_at, file_at, is_here_in, is_read_at, job_after, left_room, outputs_after, place_at, plan_after, ready_of, tables_from, task_of, with_files, with_job};
-ghost use Rattle.tl_plan.specs.Standing.{HasRoom, HasRoomForAll, StandsFor, added};
+ghost use Rattle.tl_plan.specs.Data.{awaited_at, file_at, is_here_in, job_after, outputs_after, place_at, plan_after, ready_of, tables_from, task_of, with_files, with_job};
+ghost use Rattle.tl_plan.specs.Standing.{HasRoom, HasRoomForAll, StandsFor};
+ghost use Rattle.tl_steps.specs.Steps.{added, is_read_at, left_room};
 
 use crate::job::{Job, note_jobs};
 use crate::kept::{Kept, kept_of};
 use crate::output::{Output, is_here};
 use crate::outputs::{Outputs, note_files};
-use crate::seat::{SEATS, Seat, is_read, is_running, new_seats, note_seats};
 use crate::tables::make_tables;
 use std::alloc::Global;
 use std::marker::Model;
-use tl_model::{Act, Command, Event, Facts, Header, Record, Reply};
+use tl_model::{Act, Event, Facts, Header, Record};
+use tl_steps::{SEATS, Seat, accepts, is_read, is_running, new_seats, note_seats};
 use tl_types::{FileId, NoMemory, RecordId, WorkerId};
 
 /// Which of the accepted records are tasks, which of these can be run, and which files are wanted.
@@ -218,16 +219,6 @@ fn make_all(jobs: &mut Vec<Job>, files: &mut Vec<Outputs>, seats: &[Seat])
     ensures files_capacity { vec_capacity files.new ≡ vec_capacity files.old }
 {
     make_tables(jobs, files, seats);
-}
-
-// Whether the act adds a record.
-fn accepts<T>(act: &Act<T>) -> bool
-    ensures { result ≡ accepts (act_with (λ _. tt) act.now) }
-{
-    match act {
-        Act::Call(Command::Put { .. } | Command::Job { .. }, Reply::Made(_)) => true,
-        _ => false,
-    }
 }
 
 // Adds the record for which there is a place, if there is one.

@@ -1,11 +1,11 @@
 //! Which records are tasks, and which files are awaited.
 
 ghost use Rattle.std.specs.Prelude.{◌≡◌, ◌<◌, ◌&&◌, not, length};
-ghost use Rattle.tl_plan.specs.Data.{files_after, is_running_at, is_task_now, table_step, tables_from, with_task};
+ghost use Rattle.tl_plan.specs.Data.{files_after, is_task_now, table_step, tables_from, with_task};
 
 use crate::job::Job;
 use crate::outputs::{Outputs, await_all};
-use crate::seat::{Seat, is_running};
+use tl_steps::{Seat, is_running};
 
 /// Finds, from the last record to the first, which records are tasks, and which files are awaited by
 /// them.

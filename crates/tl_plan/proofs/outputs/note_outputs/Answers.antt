@@ -1,7 +1,7 @@
 use Rattle.std.proofs.Common.{rules, ◌∙◌, ap, slice_set}
 use Rattle.tl_model.specs.Past.{act_with}
+use Rattle.tl_steps.proofs.Lists.{changed_first, changed_next, changed_all}
 use Rattle.tl_plan.specs.Data.{output_after}
-use Rattle.tl_plan.proofs.Lists.{changed_all, changed_first, changed_next}
 use Rattle.tl_plan.proofs.outputs.note_outputs.Goals as goal
 
 pub loop-output-preserved : goal.loop-output-preserved

@@ -1,7 +1,7 @@
 use Rattle.std.proofs.Common.{◌≡◌}
 use Rattle.tl_model.specs.Past.{act_with}
+use Rattle.tl_steps.proofs.Lists.{changed_first}
 use Rattle.tl_plan.specs.Data.{output_after}
-use Rattle.tl_plan.proofs.Lists.{changed_first}
 use Rattle.tl_plan.proofs.outputs.note_outputs.Given as goal
 
 abbrev pub invariant-loop-output : goal.invariant-loop-output

@@ -1,10 +1,10 @@
 use Rattle.std.proofs.Common.{◌∷◌, subst, sym}
 use Rattle.tl_model.specs.Past.{act_with, without_tickets}
 use Rattle.tl_model.specs.Rules.{lawful_judge}
+use Rattle.tl_steps.proofs.Within.{all-within}
 use Rattle.tl_plan.specs.Data.{PlanData}
 use Rattle.tl_plan.specs.Standing.{StandsFor}
 use Rattle.tl_plan.proofs.Noting.{stands-after}
-use Rattle.tl_plan.proofs.Within.{all-within}
 use Rattle.tl_plan.proofs.plan.Plan.note.Goals as goal
 
 pub returns-clause-stands : goal.returns-clause-stands

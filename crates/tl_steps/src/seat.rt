@@ -4,7 +4,7 @@ ghost use Rattle.std.specs.Prelude.{◌≡◌, map};
 ghost use Rattle.std.specs.List.{list_any};
 ghost use Rattle.tl_model.specs.Past.{act_with, event_with};
 ghost use Rattle.tl_model.specs.Actors.{actors, claim_after, claim_after_loss, claims_record, is_on, read_after, reads_file};
-ghost use Rattle.tl_plan.specs.Data.{claim_step, is_read_at, is_running_at, new_seat, read_step, seat_after};
+ghost use Rattle.tl_steps.specs.Steps.{claim_step, is_read_at, is_running_at, new_seat, read_step, seat_after};
 
 use crate::same::{same_actor, same_file, same_record, same_worker};
 use std::marker::Model;
@@ -54,10 +54,10 @@ pub struct Seat {
 }
 
 /// The number of actors.
-pub(crate) const SEATS: usize = 16;
+pub const SEATS: usize = 16;
 
 /// Everyone who makes events, with nothing open.
-pub(crate) fn new_seats() -> [Seat; SEATS]
+pub fn new_seats() -> [Seat; SEATS]
     ensures { result ≡ map new_seat actors }
 {
     [
@@ -92,7 +92,7 @@ fn new_seat(number: u8) -> Seat
 }
 
 /// Whether a read on the file is open.
-pub(crate) fn is_read(seats: &[Seat], file: FileId) -> bool
+pub fn is_read(seats: &[Seat], file: FileId) -> bool
     ensures { result ≡ is_read_at seats.now file }
 {
     seats.iter().any(|seat| reads_file(file, seat.read))
@@ -109,7 +109,7 @@ fn reads_file(file: FileId, read: Option<OpenRead>) -> bool
 }
 
 /// Whether a claim on the record is open.
-pub(crate) fn is_running(seats: &[Seat], made: RecordId) -> bool
+pub fn is_running(seats: &[Seat], made: RecordId) -> bool
     ensures { result ≡ is_running_at seats.now made }
 {
     seats.iter().any(|seat| claims_record(made, seat.claim))
@@ -126,7 +126,7 @@ fn claims_record(made: RecordId, claim: Option<OpenClaim>) -> bool
 }
 
 /// What each actor has open after an event.
-pub(crate) fn note_seats<T>(seats: &mut [Seat], event: &Event<T>)
+pub fn note_seats<T>(seats: &mut [Seat], event: &Event<T>)
     ensures { seats.new ≡ map (seat_after (event_with (λ _. tt) event.now)) seats.old }
 {
     for seat in seats.iter_mut() {

@@ -5,7 +5,7 @@ ghost use Rattle.tl_model.specs.declared.event.Event.{Event};
 ghost use Rattle.tl_model.specs.declared.header.Header.{Header};
 ghost use Rattle.tl_model.specs.Past.{without_tickets};
 ghost use Rattle.tl_model.specs.Rules.{all_permitted, lawful_judge};
-ghost use Rattle.tl_plan.specs.Standing.{IsWithin};
+ghost use Rattle.tl_steps.specs.Within.{IsWithin};
 
 /// Where the events of a journal are permitted, all files and records that it speaks of were accepted
 /// before.

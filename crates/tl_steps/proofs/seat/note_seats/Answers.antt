@@ -1,8 +1,8 @@
 use Rattle.std.proofs.Common.{rules, ◌∙◌, ap, slice_set}
 use Rattle.tl_model.specs.Past.{event_with}
-use Rattle.tl_plan.specs.Data.{seat_after}
-use Rattle.tl_plan.proofs.Lists.{changed_all, changed_first, changed_next}
-use Rattle.tl_plan.proofs.seat.note_seats.Goals as goal
+use Rattle.tl_steps.specs.Steps.{seat_after}
+use Rattle.tl_steps.proofs.Lists.{changed_all, changed_first, changed_next}
+use Rattle.tl_steps.proofs.seat.note_seats.Goals as goal
 
 pub loop-seat-preserved : goal.loop-seat-preserved
 loop-seat-preserved g c =

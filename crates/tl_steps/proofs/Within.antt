@@ -1,5 +1,5 @@
 -- All that a journal speaks of was accepted, where its events are permitted.
-use Rattle.std.proofs.Common.{◌≡◌, ℕ, ◌<◌, Bool, true, false, ◌&&◌, ◌||◌, not, if◌then◌else◌, List, [], ◌∷◌, ◌++◌, length, filter, slice_get, Option, Some, None, is_some, is_none, refl, sym, ap, ◌∙◌, subst, arith, length-append}
+use Rattle.std.proofs.Common.{◌≡◌, ℕ, ◌<◌, Bool, true, false, ◌&&◌, ◌||◌, not, if◌then◌else◌, List, [], ◌∷◌, ◌++◌, length, filter, slice_get, Option, Some, None, is_some, is_none, refl, sym, ap, ◌∙◌, subst, arith, length-append, ◌+◌}
 use Rattle.std.specs.List.{AllByRecursion, list_any}
 use Rattle.std.proofs.lemmas.Bool.{and_parts}
 use Rattle.tl_types.specs.Same.{actor_same, file_same, record_same, file_same-Decides, record_same-Decides}
@@ -20,9 +20,9 @@ use Rattle.tl_model.specs.declared.event.Event.{Event}
 use Rattle.tl_model.specs.Namespace.{Node, dir, file, Names}
 use Rattle.tl_model.specs.Past.{Past, act_with, without_tickets}
 use Rattle.tl_model.specs.Tables.{sort_by, put_by}
-use Rattle.tl_model.specs.History.{names, records, record_at, record_made, has_output, is_output, is_file_node, is_named, files}
-use Rattle.tl_model.specs.Actors.{OpenClaim, open_claim, open_save, is_on, is_idle, is_being_saved, saves_file}
-use Rattle.tl_model.specs.Residency.{is_at, is_saved, is_resident, place, place_after, saved_as, was_done}
+use Rattle.tl_model.specs.History.{inputs_of, names, records, record_at, record_made, has_output, is_output, is_file_node, is_named, files}
+use Rattle.tl_model.specs.Actors.{OpenClaim, open_claim, open_save, is_on, is_idle, is_being_saved, saves_file, open_read, reads_file}
+use Rattle.tl_model.specs.Residency.{is_at, is_saved, is_resident, place, place_after, saved_as, was_done, reads, claim_reads, reads_of_claim}
 use Rattle.tl_model.specs.Plan.{next}
 use Rattle.tl_model.specs.Eviction.{first_of}
 use Rattle.tl_model.specs.Checkpoints.{can_be_saved, is_leaf, is_hot, done_sooner, read_more, leaves, hot_files, edge, next_save}
@@ -30,10 +30,10 @@ use Rattle.tl_model.specs.Rules.{Judge, all_permitted, broken, is_file, is_recor
 use Rattle.tl_laws.specs.Permits.{permitted_of}
 use Rattle.tl_laws.specs.Numbers.{Numbered, all-numbered, get-last, get-within}
 use Rattle.tl_laws.specs.Tickets.{records-with}
-use Rattle.tl_laws.specs.Made.{IsMade, IsMadeOf, IsOutputOf, output-stays, past-made}
-use Rattle.tl_laws.specs.Order.{EachNode}
+use Rattle.tl_laws.specs.Made.{IsMade, IsMadeOf, IsOutputOf, output-stays, past-made, HasMadeInputs}
+use Rattle.tl_laws.specs.Order.{EachNode, all-get, among-holds}
 use Rattle.tl_laws.specs.Next.{next-is}
-use Rattle.tl_plan.specs.Standing.{IsWithin}
+use Rattle.tl_steps.specs.Within.{IsWithin}
 
 -- ---- what is saved next is named, and so was made
 
@@ -214,6 +214,17 @@ done-places past worker made f None old is =
 longer : (rs more : List Record) (n : ℕ) → n < length rs → n < length (rs ++ more)
 longer rs more n h = omega (arith, length-append rs more)
 
+-- what a claim reads was made
+claim-made : (past : Past) (f : FileId) (made : RecordId) (o : Option Record) → record_at past made ≡ o → AllByRecursion (HasMadeInputs (records past)) (records past) →
+    claim_reads past f o ≡ true → IsOutputOf (records past) f
+claim-made past f made None at all is = absurd (cc)
+claim-made past f made (Some r) at all is =
+    among-holds (IsOutputOf (records past)) f (inputs_of r) (all-get (HasMadeInputs (records past)) (records past) made.0 r all at) is
+
+still-unread : (b : Bool) (n : ℕ) → (b ≡ true → ⊥) → n ≡ 0 → (if b then n + 1 else n) ≡ 0
+still-unread true n never none = absurd (never refl)
+still-unread false n never none = none
+
 -- what was accepted by a call stays
 calls-within : (past : Past) (actor : Actor) (command : Command (Unit {0})) (reply : Reply) → IsWithin past →
     IsMadeOf (names (record { actor = actor; act = Call command reply } ∷ past)) (records (record { actor = actor; act = Call command reply } ∷ past)) →
@@ -228,6 +239,7 @@ calls-within past actor command reply known made numbered =
       saves = λ a f is. output-stays (records past) more f (known.saves a f (same-either (actor_same a actor) (open_save past a) f is));
       claims = λ a claim is. longer (records past) more claim.made.0 (known.claims a claim (same-either (actor_same a actor) (open_claim past a) claim is));
       done = λ m is. longer (records past) more m.0 (known.done m is);
+      unread = λ f never. known.unread f (λ is. never (output-stays (records past) more f is));
     }
 
 -- open saves and claims after an act that opens none
@@ -265,6 +277,10 @@ act-within judge header events past actor (Call command reply) known was made nu
 act-within judge header events past actor (Served g digest) known was made numbered ok = record {
   numbered = numbered;
   inputs = made.inputs;
+  unread = λ f never. still-unread (file_same f g) (reads past f)
+      (λ e. never (subst (IsOutputOf (records past)) (sym ((file_same-Decides f g).0 e))
+      (known.placed g (and_parts (reads_file g (open_read past actor)) (is_resident past g) (and_parts (reads_file g (open_read past actor) && is_resident past g) _ ok).0).1)))
+      (known.unread f never);
   placed = known.placed;
   saved = known.saved;
   done = known.done;
@@ -274,6 +290,7 @@ act-within judge header events past actor (Served g digest) known was made numbe
 act-within judge header events past actor (Shut g) known was made numbered ok = record {
   numbered = numbered;
   inputs = made.inputs;
+  unread = known.unread;
   placed = known.placed;
   saved = known.saved;
   done = known.done;
@@ -285,6 +302,7 @@ act-within judge header events past actor (Claim worker m) known was made number
     record {
       numbered = numbered;
       inputs = made.inputs;
+      unread = λ f never. still-unread (reads_of_claim past f m) (reads past f) (λ e. never (claim-made past f m (record_at past m) refl known.inputs e)) (known.unread f never);
       placed = known.placed;
       saved = known.saved;
       done = known.done;
@@ -295,6 +313,7 @@ act-within judge header events past actor (Claim worker m) known was made number
 act-within judge header events past actor (Done worker m) known was made numbered ok = record {
   numbered = numbered;
   inputs = made.inputs;
+  unread = known.unread;
   saved = known.saved;
   placed = λ f is. done-places past worker m f (place past f) (known.placed f) is;
   saves = saves-stay past actor known;
@@ -307,6 +326,7 @@ act-within judge header events past actor (Done worker m) known was made numbere
 act-within judge header events past actor (Back m) known was made numbered ok = record {
   numbered = numbered;
   inputs = made.inputs;
+  unread = known.unread;
   placed = known.placed;
   saved = known.saved;
   done = known.done;
@@ -316,6 +336,7 @@ act-within judge header events past actor (Back m) known was made numbered ok = 
 act-within judge header events past actor (Lose worker) known was made numbered ok = record {
   numbered = numbered;
   inputs = made.inputs;
+  unread = known.unread;
   saved = known.saved;
   done = known.done;
   placed = λ f is. known.placed f (some-unless (is_at worker (place past f)) (place past f) is);
@@ -326,6 +347,7 @@ act-within judge header events past actor (Lose worker) known was made numbered 
 act-within judge header events past actor (Free g) known was made numbered ok = record {
   numbered = numbered;
   inputs = made.inputs;
+  unread = known.unread;
   saved = known.saved;
   done = known.done;
   placed = λ f is. known.placed f (some-unless (file_same f g) (place past f) is);
@@ -335,6 +357,7 @@ act-within judge header events past actor (Free g) known was made numbered ok = 
 act-within judge header events past actor (Drop worker g) known was made numbered ok = record {
   numbered = numbered;
   inputs = made.inputs;
+  unread = known.unread;
   saved = known.saved;
   done = known.done;
   placed = λ f is. known.placed f (some-unless (file_same f g && is_at worker (place past f)) (place past f) is);
@@ -346,6 +369,7 @@ act-within judge header events past actor (Load worker g) known was made numbere
     record {
       numbered = numbered;
       inputs = made.inputs;
+      unread = known.unread;
       saved = known.saved;
       done = known.done;
       placed = λ f is. some-or (IsOutputOf (records past) f) (file_same f g) worker (place past f)
@@ -356,6 +380,7 @@ act-within judge header events past actor (Load worker g) known was made numbere
 act-within judge header events past actor (Save g) known was made numbered ok = record {
   numbered = numbered;
   inputs = made.inputs;
+  unread = known.unread;
   placed = known.placed;
   saved = known.saved;
   done = known.done;
@@ -371,6 +396,7 @@ act-within judge header events past actor (Saved g size digest) known was made n
     record {
       numbered = numbered;
       inputs = made.inputs;
+      unread = known.unread;
       placed = known.placed;
       done = known.done;
       saved = λ f is. some-or (IsOutputOf (records past) f) (file_same f g) (record { size = size; digest = digest }) (saved_as past f)
@@ -381,6 +407,7 @@ act-within judge header events past actor (Saved g size digest) known was made n
 act-within judge header events past actor (Unsave g) known was made numbered ok = record {
   numbered = numbered;
   inputs = made.inputs;
+  unread = known.unread;
   placed = known.placed;
   saved = known.saved;
   done = known.done;
@@ -390,6 +417,7 @@ act-within judge header events past actor (Unsave g) known was made numbered ok 
 act-within judge header events past actor (Collect m) known was made numbered ok = record {
   numbered = numbered;
   inputs = made.inputs;
+  unread = known.unread;
   placed = known.placed;
   saved = known.saved;
   done = known.done;
@@ -409,6 +437,7 @@ within-empty = record {
   saves = λ a f is. absurd (cc);
   claims = λ a claim is. absurd (cc);
   done = λ made is. absurd (cc);
+  unread = λ f never. refl;
 }
 
 pub all-within : {T : Type 0} (judge : Judge T) (header : Header) (events : List (Event T)) → all_permitted judge header events ≡ true → IsWithin (without_tickets events)

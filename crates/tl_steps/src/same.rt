@@ -5,25 +5,29 @@ ghost use Rattle.tl_types.specs.Same.{actor_same, file_same, record_same, worker
 
 use tl_types::{Actor, FileId, RecordId, WorkerId};
 
-pub(crate) fn same_actor(a: Actor, b: Actor) -> bool
+/// Whether it is the same actor.
+pub fn same_actor(a: Actor, b: Actor) -> bool
     ensures { result ≡ actor_same a b }
 {
     a == b
 }
 
-pub(crate) fn same_file(a: FileId, b: FileId) -> bool
+/// Whether it is the same file.
+pub fn same_file(a: FileId, b: FileId) -> bool
     ensures { result ≡ file_same a b }
 {
     a == b
 }
 
-pub(crate) fn same_record(a: RecordId, b: RecordId) -> bool
+/// Whether it is the same record.
+pub fn same_record(a: RecordId, b: RecordId) -> bool
     ensures { result ≡ record_same a b }
 {
     a == b
 }
 
-pub(crate) fn same_worker(a: WorkerId, b: WorkerId) -> bool
+/// Whether it is the same worker.
+pub fn same_worker(a: WorkerId, b: WorkerId) -> bool
     ensures { result ≡ worker_same a b }
 {
     a == b

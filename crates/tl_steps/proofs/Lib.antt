@@ -1,0 +1,4 @@
+pub mod Files
+pub mod Lists
+pub mod Seats
+pub mod Within

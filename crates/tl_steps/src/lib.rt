@@ -1,0 +1,13 @@
+//! What one event makes of a file, a record and an actor, and what a journal can speak of. The crates that
+//! are kept in step with a journal event by event share it.
+#![tactic(auto)]
+
+mod act;
+mod laws;
+mod same;
+mod seat;
+
+pub use act::{accepts, does, place_now, saves_now};
+pub use laws::journals_speak_of_the_accepted;
+pub use same::{same_actor, same_file, same_record, same_worker};
+pub use seat::{OpenClaim, OpenRead, SEATS, Seat, is_read, is_running, new_seats, note_seats};
