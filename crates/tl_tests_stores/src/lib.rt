@@ -9,6 +9,8 @@ mod fleet;
 #[cfg(test)]
 mod lineage;
 #[cfg(test)]
+mod plan;
+#[cfg(test)]
 mod store;
 #[cfg(test)]
 mod vault;
