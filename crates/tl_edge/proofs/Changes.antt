@@ -1,0 +1,281 @@
+-- What one event changes in what is kept of a file.
+use Rattle.std.proofs.Common.{◌≡◌, ◌∙◌, arith, ℕ, zero, suc, ◌+◌, ◌<◌, ◌≤◌, ◌^◌, Bool, true, false, ◌&&◌, ◌||◌, not, if◌then◌else◌, List, [], ◌∷◌, ◌++◌, length, map, slice_get, Option, Some, None, is_some, refl, sym, ap, append-nil}
+use Rattle.std.specs.List.{AllByRecursion, list_any}
+use Rattle.std.proofs.lemmas.Bool.{lt-ltb}
+use Rattle.std.proofs.lemmas.List.Folds.{list_any-append}
+use Rattle.std.proofs.lemmas.Option.{slice_get_past}
+use Rattle.tl_types.specs.Same.{file_same, record_same, record_same-Decides}
+use Rattle.tl_types.specs.declared.actor.Actor.{Actor}
+use Rattle.tl_types.specs.declared.file_id.FileId.{FileId}
+use Rattle.tl_types.specs.declared.record_id.RecordId.{RecordId}
+use Rattle.tl_types.specs.declared.worker_id.WorkerId.{WorkerId}
+use Rattle.tl_model.specs.declared.event.Act.{Act}
+use Rattle.tl_model.specs.declared.event.Act.TheVariants.{Call, Claim, Done, Saved}
+use Rattle.tl_model.specs.declared.command.Command.{Command}
+use Rattle.tl_model.specs.declared.command.Command.TheVariants as command
+use Rattle.tl_model.specs.declared.reply.Reply.{Reply}
+use Rattle.tl_model.specs.declared.reply.Reply.TheVariants.{Made}
+use Rattle.tl_model.specs.declared.record.Record.{Record}
+use Rattle.tl_model.specs.Past.{Past, Plain}
+use Rattle.tl_model.specs.History.{files_at, files_from, has_input, has_output, id_of, inputs_of, is_named, is_output, names, output_count, outputs_of, record_at, record_made, records}
+use Rattle.tl_model.specs.Actors.{actors}
+use Rattle.tl_model.specs.Residency.{SavedAs, claim_reads, does, is_saved, is_use, place, place_after, reads, saved_after, saved_as, was_done}
+use Rattle.tl_model.specs.Checkpoints.{is_leaf, last_done}
+use Rattle.tl_laws.specs.Numbers.{Numbered, get-last, get-within}
+use Rattle.tl_laws.specs.Made.{IsOutputOf}
+use Rattle.tl_laws.specs.Order.{HasOlderInputs, among-holds}
+use Rattle.tl_edge.specs.declared.kept.Kept.{Kept}
+use Rattle.tl_edge.specs.declared.output.Output.{Output}
+use Rattle.tl_edge.specs.Data.{accepts, files_of_all, has_input_at, is_gone, is_in, is_taken_up, is_use_now, new_output, next_number, output_after, place_after_done, place_now, save_next, saves_now}
+use Rattle.tl_edge.specs.Standing.{UnnamesOnly, added, files_in, kept_of, output_of, outputs_in, save_of}
+use Rattle.tl_edge.proofs.Lists.{map_after, map_same}
+use Rattle.tl_edge.proofs.Within.{IsWithin}
+
+abbrev pub after : Actor → Act (Unit {0}) → Past → Past
+after actor act past = record { actor = actor; act = act } ∷ past
+
+-- there is a place for each record that is added
+abbrev pub RoomFor : Option Kept → List Record → Type 0
+RoomFor next [] = Unit {0}
+RoomFor next (r ∷ rs) = next ≡ Some (kept_of r)
+
+-- ---- saves
+
+pub saves-after : (e : Plain) (past : Past) → map (save_next e) (map (save_of past) actors) ≡ map (save_of (e ∷ past)) actors
+saves-after e past = map_after (save_of past) (save_next e) actors
+
+-- ---- where a file is, and whether it is saved
+
+done-some : (past : Past) (worker : WorkerId) (made : RecordId) (f : FileId) (here : Option WorkerId) → record_same f.rec made ≡ is_output past f made →
+    place_after_done (record_same f.rec made) worker here ≡ place_after past (Done worker made) f here
+done-some past worker made f (Some w) same = refl
+done-some past worker made f None same = ap (λ b. if b then Some worker else None) same
+
+output-if : (past : Past) (f : FileId) (made : RecordId) (b : Bool) → record_same f.rec made ≡ b → IsOutputOf (records past) f → b ≡ (b && has_output (record_at past made) f.out)
+output-if past f made false e is = refl
+output-if past f made true e is =
+    sym (ap (λ (r : RecordId). has_output (record_at past r) f.out) (sym ((record_same-Decides f.rec made).0 e)) ∙ is)
+
+place-same : (past : Past) (act : Act (Unit {0})) (f : FileId) (here : Option WorkerId) → IsOutputOf (records past) f → place_now act f here ≡ place_after past act f here
+place-same past (Done worker made) f here is = done-some past worker made f here (output-if past f made (record_same f.rec made) refl is)
+place-same past _ f here is = refl
+
+saved-or : (b : Bool) (x : SavedAs) (before : Option SavedAs) → (b || is_some before) ≡ is_some (if b then Some x else before)
+saved-or true x before = refl
+saved-or false x before = refl
+
+saved-same : (act : Act (Unit {0})) (f : FileId) (before : Option SavedAs) → (saves_now act f || is_some before) ≡ is_some (saved_after act f before)
+saved-same (Saved g size digest) f before = saved-or (file_same f g) (record { size = size; digest = digest }) before
+saved-same _ f before = refl
+
+-- ---- names
+
+named-by : (was now : Bool) → (now ≡ true → was ≡ true) → (was && not (was && not now)) ≡ now
+named-by true true h = refl
+named-by true false h = refl
+named-by false true h = let never : false ≡ true = h refl in absurd (cc)
+named-by false false h = refl
+
+-- a file of an older record gets no name
+abbrev pub NoNewNames : Past → Past → Type 0
+NoNewNames past now = (f : FileId) → f.rec.0 < length (records past) → is_named now f ≡ true → is_named past f ≡ true
+
+within-records : (rs : List Record) (f : FileId) (o : Option Record) → slice_get rs f.rec.0 ≡ o → has_output o f.out ≡ true → f.rec.0 < length rs
+within-records rs f None at is = absurd (cc)
+within-records rs f (Some r) at is = get-within rs f.rec.0 r at
+
+named-same : (past : Past) (e : Plain) (lost : Option FileId) (f : FileId) → UnnamesOnly past e lost → NoNewNames past (e ∷ past) → IsOutputOf (records past) f →
+    (is_named past f && not (is_gone lost f)) ≡ is_named (e ∷ past) f
+named-same past e lost f only older is =
+    ap (λ b. is_named past f && not b) (only f)
+    ∙ named-by (is_named past f) (is_named (e ∷ past) f) (older f (within-records (records past) f (slice_get (records past) f.rec.0) refl is))
+
+-- ---- leaves
+
+not-taken : (next : Option Kept) (act : Act (Unit {0})) (f : FileId) → accepts act ≡ false → is_taken_up next act f ≡ false
+not-taken None act f none = refl
+not-taken (Some kept) act f none = ap (λ b. b && is_in f kept.inputs) none
+
+or-false : (b : Bool) → b ≡ (b || false)
+or-false true = refl
+or-false false = refl
+
+taken-called : (next : Option Kept) (reply : Reply) (c : Command (Unit {0})) (past : Past) (f : FileId) → RoomFor next (record_made reply c (names past)) →
+    is_taken_up next (Call c reply) f ≡ list_any (has_input f) (record_made reply c (names past))
+taken-called next (Made made) (command.Put path len digest ticket) past f room =
+    ap (λ o. is_taken_up o (Call (command.Put path len digest ticket) (Made made)) f) room
+taken-called next (Made made) (command.Job core prio inputs outputs) past f room =
+    ap (λ o. is_taken_up o (Call (command.Job core prio inputs outputs) (Made made)) f) room
+    ∙ or-false (is_in f (files_at (names past) inputs))
+taken-called next reply c past f room = not-taken next (Call c reply) f refl
+
+taken-same : (next : Option Kept) (act : Act (Unit {0})) (past : Past) (f : FileId) → RoomFor next (added past act) →
+    is_taken_up next act f ≡ list_any (has_input f) (added past act)
+taken-same next (Call c reply) past f room = taken-called next reply c past f room
+taken-same next act past f room = not-taken next act f refl
+
+pub records-after : (actor : Actor) (act : Act (Unit {0})) (past : Past) → records (after actor act past) ≡ records past ++ added past act
+records-after actor (Call c reply) past = refl
+records-after actor act past = sym (append-nil (records past))
+
+not-or : (a b : Bool) → (not a && not b) ≡ not (a || b)
+not-or true b = refl
+not-or false b = refl
+
+leaf-same : (next : Option Kept) (actor : Actor) (act : Act (Unit {0})) (past : Past) (f : FileId) → RoomFor next (added past act) →
+    (is_leaf past f && not (is_taken_up next act f)) ≡ is_leaf (after actor act past) f
+leaf-same next actor act past f room =
+    ap (λ b. is_leaf past f && not b) (taken-same next act past f room)
+    ∙ not-or (list_any (has_input f) (records past)) (list_any (has_input f) (added past act))
+    ∙ ap not (sym (list_any-append (has_input f) (records past) (added past act)) ∙ ap (list_any (has_input f)) (sym (records-after actor act past)))
+
+-- ---- reads
+
+claimed-same : (past : Past) (f : FileId) (rs : List Record) (n : ℕ) → has_input_at (slice_get (map inputs_of rs) n) f ≡ claim_reads past f (slice_get rs n)
+claimed-same past f [] zero = refl
+claimed-same past f [] (suc n) = refl
+claimed-same past f (r ∷ rs) zero = refl
+claimed-same past f (r ∷ rs) (suc n) = claimed-same past f rs n
+
+use-same : (past : Past) (act : Act (Unit {0})) (f : FileId) → is_use_now (map inputs_of (records past)) act f ≡ is_use past act f
+use-same past (Claim worker made) f = claimed-same past f (records past) made.0
+use-same past _ f = refl
+
+more-reads : (b : Bool) (n m : ℕ) → n ≤ m → (if b then n + 1 else n) ≤ suc m
+more-reads true n m le = omega arith
+more-reads false n m le = omega arith
+
+reads-bound : (past : Past) (f : FileId) → reads past f ≤ length past
+reads-bound [] f = omega arith
+reads-bound (e ∷ past) f = more-reads (is_use past e.act f) (reads past f) (length past) (reads-bound past f)
+
+pub next-is : (n m : ℕ) → n ≤ m → suc m < 2 ^ 64 → next_number n ≡ n + 1
+next-is n m le few = omega arith
+
+reads-same : (actor : Actor) (act : Act (Unit {0})) (past : Past) (f : FileId) → suc (length past) < 2 ^ 64 →
+    (if is_use_now (map inputs_of (records past)) act f then next_number (reads past f) else reads past f) ≡ reads (after actor act past) f
+reads-same actor act past f few =
+    λ i. if use-same past act f i then next-is (reads past f) (length past) (reads-bound past f) few i else reads past f
+
+-- ---- a file
+
+pub output-same : (next : Option Kept) (lost : Option FileId) (actor : Actor) (act : Act (Unit {0})) (past : Past) (f : FileId) → IsOutputOf (records past) f →
+    RoomFor next (added past act) → UnnamesOnly past (record { actor = actor; act = act }) lost → NoNewNames past (after actor act past) → suc (length past) < 2 ^ 64 →
+    output_after (map inputs_of (records past)) next (length past) lost act (output_of past f) ≡ output_of (after actor act past) f
+output-same next lost actor act past f is room only older few =
+    λ i. record {
+      file = f;
+      place = place-same past act f (place past f) is i;
+      is_named = named-same past (record { actor = actor; act = act }) lost f only older is i;
+      is_saved = saved-same act f (saved_as past f) i;
+      is_leaf = leaf-same next actor act past f room i;
+      reads = reads-same actor act past f few i;
+      last_done = last_done (after actor act past) f.rec;
+    }
+
+each-file : (F G : FileId → Output) (id : RecordId) (k n t : ℕ) → t ≡ k + n → ((j : ℕ) → j < t → F (record { rec = id; out = j }) ≡ G (record { rec = id; out = j })) →
+    map F (files_from id k n) ≡ map G (files_from id k n)
+each-file F G id k zero t place h = refl
+each-file F G id k (suc n) t place h =
+    λ i. h k (omega arith) i ∷ each-file F G id (k + 1) n t (omega arith) h i
+
+is-output : (rs : List Record) (r : Record) (at : ℕ) (j : ℕ) → Numbered rs → slice_get rs at ≡ Some r → j < output_count r → IsOutputOf rs (record { rec = id_of r; out = j })
+is-output rs r at j numbered got less =
+    let place : slice_get rs (id_of r).0 ≡ Some r = ap (λ (id : RecordId). slice_get rs id.0) (numbered at r got) ∙ got in
+    ap (λ o. has_output o j) place ∙ lt-ltb j (output_count r) less
+
+-- the files of all records
+pub files-after : (next : Option Kept) (lost : Option FileId) (actor : Actor) (act : Act (Unit {0})) (past : Past) → Numbered (records past) →
+    RoomFor next (added past act) → UnnamesOnly past (record { actor = actor; act = act }) lost → NoNewNames past (after actor act past) → suc (length past) < 2 ^ 64 →
+    files_of_all (map inputs_of (records past)) next (length past) lost act (files_in past (records past)) ≡ files_in (after actor act past) (records past)
+files-after next lost actor act past numbered room only older few =
+    let step = output_after (map inputs_of (records past)) next (length past) lost act in
+    map_after (outputs_in past) (map step) (records past)
+    ∙ map_same (λ r. map step (outputs_in past r)) (outputs_in (after actor act past)) (records past)
+    (λ at r got.
+    map_after (output_of past) step (outputs_of r)
+    ∙ each-file (λ f. step (output_of past f)) (output_of (after actor act past)) (id_of r) 0 (output_count r) (output_count r) (omega arith)
+    (λ j less. output-same next lost actor act past (record { rec = id_of r; out = j }) (is-output (records past) r at j numbered got less) room only older few))
+
+-- ---- a record that a call adds
+
+not-true : (b : Bool) → (b ≡ true → ⊥) → b ≡ false
+not-true true never = absurd (never refl)
+not-true false never = refl
+
+nowhere : {A : Type 0} (o : Option A) → (is_some o ≡ true → ⊥) → o ≡ None
+nowhere None never = refl
+nowhere (Some x) never = absurd (never refl)
+
+-- it is not there yet
+not-yet : (past : Past) (id : RecordId) (j : ℕ) → id.0 ≡ length (records past) → IsOutputOf (records past) (record { rec = id; out = j }) → ⊥
+not-yet past id j place is =
+    let none : slice_get (records past) id.0 ≡ None = slice_get_past (records past) id.0 (omega arith) in
+    let never : false ≡ true = ap (λ o. has_output o j) (sym none) ∙ is in
+    absurd (cc)
+
+new-number : (past now : Past) (r : Record) → records now ≡ records past ++ r ∷ [] → Numbered (records now) → (id_of r).0 ≡ length (records past)
+new-number past now r is numbered =
+    ap (λ (id : RecordId). id.0)
+    (numbered (length (records past)) r (ap (λ rs. slice_get rs (length (records past))) is ∙ get-last (records past) r (length (records past)) refl))
+
+both-false : (a b : Bool) → a ≡ false → b ≡ false → (a || b) ≡ false
+both-false true b e h = absurd (cc)
+both-false false b e h = h
+
+-- no record has a file of its own number or a later one as input
+none-reads : (f : FileId) (rs : List Record) → ((i : ℕ) (r : Record) → slice_get rs i ≡ Some r → (id_of r).0 ≤ f.rec.0) → AllByRecursion HasOlderInputs rs →
+    list_any (has_input f) rs ≡ false
+none-reads f [] few all = refl
+none-reads f (r ∷ rs) few all =
+    both-false (has_input f r) (list_any (has_input f) rs)
+    (not-true (has_input f r) (λ is.
+    let less : f.rec.0 < (id_of r).0 = among-holds (λ g. g.rec.0 < (id_of r).0) f (inputs_of r) all.0 is in
+    let le : (id_of r).0 ≤ f.rec.0 = few 0 r refl in
+    absurd (omega arith)))
+    (none-reads f rs (λ i x at. few (suc i) x at) all.1)
+
+number-within : (past now : Past) (r x : Record) (i : ℕ) → records now ≡ records past ++ r ∷ [] → Numbered (records now) → slice_get (records now) i ≡ Some x →
+    (id_of x).0 ≤ length (records past)
+number-within past now r x i is numbered at =
+    let own : (id_of x).0 ≡ i = ap (λ (id : RecordId). id.0) (numbered i x at) in
+    let less : i < length (records past ++ r ∷ []) = get-within (records past ++ r ∷ []) i x (ap (λ rs. slice_get rs i) (sym is) ∙ at) in
+    let long : length (records past ++ r ∷ []) ≡ length (records past) + 1 = length-more (records past) r in
+    omega arith
+  where
+    length-more : (rs : List Record) (x : Record) → length (rs ++ x ∷ []) ≡ length rs + 1
+    length-more [] x = refl
+    length-more (y ∷ rs) x = let rest : length (rs ++ x ∷ []) ≡ length rs + 1 = length-more rs x in omega arith
+
+last-of : (b rest : Bool) (n k : ℕ) → (b || rest) ≡ false → (rest ≡ false → k ≡ 0) → (if b then n else k) ≡ 0
+last-of true rest n k never later = absurd (cc)
+last-of false rest n k never later = later never
+
+never-done : (past : Past) (made : RecordId) → was_done past made ≡ false → last_done past made ≡ 0
+never-done [] made never = refl
+never-done (e ∷ past) made never =
+    last-of (does made e.act) (was_done past made) (length past) (last_done past made) never (never-done past made)
+
+pub outputs-new : (actor : Actor) (c : Command (Unit {0})) (reply : Reply) (past : Past) (r : Record) → IsWithin past →
+    records (after actor (Call c reply) past) ≡ records past ++ r ∷ [] → Numbered (records (after actor (Call c reply) past)) →
+    AllByRecursion HasOlderInputs (records (after actor (Call c reply) past)) →
+    ((j : ℕ) → j < output_count r → is_named (after actor (Call c reply) past) (record { rec = id_of r; out = j }) ≡ true) →
+    (kept_of r).outputs ≡ outputs_in (after actor (Call c reply) past) r
+outputs-new actor c reply past r within is numbered older named =
+    let now = after actor (Call c reply) past in
+    let number : (id_of r).0 ≡ length (records past) = new-number past now r is numbered in
+    let undone : was_done past (id_of r) ≡ false = not-true (was_done past (id_of r)) (λ e. let less : (id_of r).0 < length (records past) = within.done (id_of r) e in absurd (omega arith)) in
+    each-file new_output (output_of now) (id_of r) 0 (output_count r) (output_count r) (omega arith)
+    (λ j less.
+    let f : FileId = record { rec = id_of r; out = j } in
+    let unread : list_any (has_input f) (records now) ≡ false = none-reads f (records now)
+    (λ i x at. let le : (id_of x).0 ≤ length (records past) = number-within past now r x i is numbered at in omega arith) older in
+    λ i. record {
+      file = f;
+      place = sym (nowhere (place past f) (λ e. not-yet past (id_of r) j number (within.placed f e))) i;
+      is_named = sym (named j less) i;
+      is_saved = sym (not-true (is_saved past f) (λ e. not-yet past (id_of r) j number (within.saved f e))) i;
+      is_leaf = sym (ap not unread) i;
+      reads = sym (within.unread f (not-yet past (id_of r) j number)) i;
+      last_done = sym (never-done past (id_of r) undone) i;
+    })

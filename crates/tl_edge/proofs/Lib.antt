@@ -1,0 +1,6 @@
+pub mod Changes
+pub mod Choosing
+pub mod Lists
+pub mod Named
+pub mod Noting
+pub mod Within

@@ -1,0 +1,6 @@
+use Rattle.std.proofs.Common.{◌≡◌, drop}
+use Rattle.tl_edge.specs.Data.{first_hot_in}
+use Rattle.tl_edge.proofs.choice.first_hot_in.Given as goal
+
+abbrev pub invariant-loop-i : goal.invariant-loop-i
+invariant-loop-i l = l.best ≡ first_hot_in l.saves l.hot (drop l.i l.outputs) l.fn.later

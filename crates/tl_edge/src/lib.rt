@@ -1,0 +1,12 @@
+//! Which file is saved next, kept in step with a journal event by event.
+#![tactic(auto)]
+
+mod choice;
+mod edge;
+mod kept;
+mod output;
+mod outputs;
+mod same;
+mod save;
+
+pub use edge::Edge;
