@@ -4,9 +4,11 @@
 mod choice;
 mod edge;
 mod kept;
+mod laws;
 mod output;
 mod outputs;
 mod same;
 mod save;
 
 pub use edge::Edge;
+pub use laws::only_deletes_unname;
