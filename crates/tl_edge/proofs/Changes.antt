@@ -26,10 +26,12 @@ use Rattle.tl_laws.specs.Made.{IsOutputOf}
 use Rattle.tl_laws.specs.Order.{HasOlderInputs, among-holds}
 use Rattle.tl_edge.specs.declared.kept.Kept.{Kept}
 use Rattle.tl_edge.specs.declared.output.Output.{Output}
-use Rattle.tl_edge.specs.Data.{accepts, files_of_all, has_input_at, is_gone, is_in, is_taken_up, is_use_now, new_output, next_number, output_after, place_after_done, place_now, save_next, saves_now}
+use Rattle.tl_edge.specs.Data.{accepts, files_after, is_gone, is_in, new_output, next_number, next_of, save_next, taken_up}
 use Rattle.tl_edge.specs.Standing.{UnnamesOnly, added, files_in, kept_of, output_of, outputs_in, save_of}
 use Rattle.tl_edge.proofs.Lists.{map_after, map_same}
 use Rattle.tl_edge.proofs.Within.{IsWithin}
+use Rattle.tl_edge.proofs.Rows.{starts}
+use Rattle.tl_edge.proofs.Acting.{after-in-rows, has_input_at, is_taken_up, is_use_now, output_after, place_after_done, place_now, saves_now, taken_with}
 
 abbrev pub after : Actor → Act (Unit {0}) → Past → Past
 after actor act past = record { actor = actor; act = act } ∷ past
@@ -93,8 +95,11 @@ named-same past e lost f only older is =
 -- ---- leaves
 
 not-taken : (next : Option Kept) (act : Act (Unit {0})) (f : FileId) → accepts act ≡ false → is_taken_up next act f ≡ false
-not-taken None act f none = refl
-not-taken (Some kept) act f none = ap (λ b. b && is_in f kept.inputs) none
+not-taken next act f none = ap (λ b. taken_with b next f) none ∙ never-taken next f
+  where
+    never-taken : (next : Option Kept) (f : FileId) → taken_with false next f ≡ false
+    never-taken None f = refl
+    never-taken (Some kept) f = refl
 
 or-false : (b : Bool) → b ≡ (b || false)
 or-false true = refl
@@ -161,7 +166,7 @@ reads-same actor act past f few =
 
 pub output-same : (next : Option Kept) (lost : Option FileId) (actor : Actor) (act : Act (Unit {0})) (past : Past) (f : FileId) → IsOutputOf (records past) f →
     RoomFor next (added past act) → UnnamesOnly past (record { actor = actor; act = act }) lost → NoNewNames past (after actor act past) → suc (length past) < 2 ^ 64 →
-    output_after (map inputs_of (records past)) next (length past) lost act (output_of past f) ≡ output_of (after actor act past) f
+    output_after (map inputs_of (records past)) next (length past) lost act f (output_of past f) ≡ output_of (after actor act past) f
 output-same next lost actor act past f is room only older few =
     λ i. record {
       file = f;
@@ -185,16 +190,15 @@ is-output rs r at j numbered got less =
     ap (λ o. has_output o j) place ∙ lt-ltb j (output_count r) less
 
 -- the files of all records
-pub files-after : (next : Option Kept) (lost : Option FileId) (actor : Actor) (act : Act (Unit {0})) (past : Past) → Numbered (records past) →
+pub files-same : (next : Option Kept) (lost : Option FileId) (actor : Actor) (act : Act (Unit {0})) (past : Past) → Numbered (records past) →
     RoomFor next (added past act) → UnnamesOnly past (record { actor = actor; act = act }) lost → NoNewNames past (after actor act past) → suc (length past) < 2 ^ 64 →
-    files_of_all (map inputs_of (records past)) next (length past) lost act (files_in past (records past)) ≡ files_in (after actor act past) (records past)
-files-after next lost actor act past numbered room only older few =
-    let step = output_after (map inputs_of (records past)) next (length past) lost act in
-    map_after (outputs_in past) (map step) (records past)
-    ∙ map_same (λ r. map step (outputs_in past r)) (outputs_in (after actor act past)) (records past)
+    taken_up (next_of act next) (files_after (map inputs_of (records past)) (length past) lost act (files_in past (records past))) ≡ files_in (after actor act past) (records past)
+files-same next lost actor act past numbered room only older few =
+    let step : FileId → Output = λ f. output_after (map inputs_of (records past)) next (length past) lost act f (output_of past f) in
+    after-in-rows (map inputs_of (records past)) next (length past) lost act (output_of past) (records past) (starts (records past) numbered)
+    ∙ map_same (λ r. map step (outputs_of r)) (outputs_in (after actor act past)) (records past)
     (λ at r got.
-    map_after (output_of past) step (outputs_of r)
-    ∙ each-file (λ f. step (output_of past f)) (output_of (after actor act past)) (id_of r) 0 (output_count r) (output_count r) (omega arith)
+    each-file step (output_of (after actor act past)) (id_of r) 0 (output_count r) (output_count r) (omega arith)
     (λ j less. output-same next lost actor act past (record { rec = id_of r; out = j }) (is-output (records past) r at j numbered got less) room only older few))
 
 -- ---- a record that a call adds

@@ -1,6 +1,8 @@
+pub mod Acting
 pub mod Changes
 pub mod Choosing
 pub mod Lists
 pub mod Named
 pub mod Noting
+pub mod Rows
 pub mod Within

@@ -1,10 +1,21 @@
 -- A list of which one element changes after another.
-use Rattle.std.proofs.Common.{◌≡◌, ◌∙◌, arith, ℕ, zero, suc, ◌+◌, ◌<◌, Bool, ◌||◌, List, [], ◌∷◌, ◌++◌, length, map, slice_get, slice_set, slice_index_or, Some, refl, sym, ap}
+use Rattle.std.proofs.Common.{◌≡◌, ◌∙◌, arith, ℕ, zero, suc, ◌+◌, ◌<◌, ◌≤◌, Bool, ◌||◌, List, [], ◌∷◌, ◌++◌, length, map, slice_get, slice_set, slice_index_or, Some, refl, sym, ap}
 use Rattle.std.specs.List.{list_any}
 use Rattle.tl_types.specs.declared.record_id.RecordId.{RecordId}
 use Rattle.tl_model.specs.History.{files_from}
 use Rattle.tl_edge.specs.declared.output.Output.{Output}
-use Rattle.tl_edge.specs.Data.{new_output}
+use Rattle.tl_edge.specs.Data.{changed_at, new_output}
+
+pub set_changed : {A : Type 0} (xs : List A) (n : ℕ) (d : A) (change : A → A) → slice_set xs n (change (slice_index_or xs n d)) ≡ changed_at n change xs
+set_changed [] zero d change = refl
+set_changed [] (suc n) d change = refl
+set_changed (x ∷ xs) zero d change = refl
+set_changed (x ∷ xs) (suc n) d change = ap (λ ys. x ∷ ys) (set_changed xs n d change)
+
+pub unchanged_past : {A : Type 0} (xs : List A) (n : ℕ) (change : A → A) → length xs ≤ n → xs ≡ changed_at n change xs
+unchanged_past [] n change out = refl
+unchanged_past (x ∷ xs) zero change out = absurd (omega arith)
+unchanged_past (x ∷ xs) (suc n) change out = ap (λ ys. x ∷ ys) (unchanged_past xs n change (omega arith))
 
 -- the first n have changed
 abbrev pub changed_first : {A : Type 0} → ℕ → (A → A) → List A → List A

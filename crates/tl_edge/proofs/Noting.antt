@@ -24,12 +24,12 @@ use Rattle.tl_needs.specs.Next.{event-next}
 use Rattle.tl_needs.specs.Sound.{past-numbered, permitted-before}
 use Rattle.tl_edge.specs.declared.kept.Kept.{Kept}
 use Rattle.tl_edge.specs.declared.output.Output.{Output}
-use Rattle.tl_edge.specs.Data.{EdgeData, edge_after, files_of_all, new_save, next_number, next_of, save_next, with_files, with_inputs}
+use Rattle.tl_edge.specs.Data.{EdgeData, edge_after, files_after, new_save, next_number, next_of, save_next, taken_up, with_files, with_inputs}
 use Rattle.tl_edge.specs.Standing.{HasRoomForAll, StandsFor, UnnamesOnly, added, files_in, kept_of, outputs_in}
 use Rattle.tl_edge.proofs.Lists.{map_append}
 use Rattle.tl_edge.proofs.Named.{just-named, outputs-named}
 use Rattle.tl_edge.proofs.Within.{IsWithin, all-within}
-use Rattle.tl_edge.proofs.Changes.{NoNewNames, RoomFor, after, files-after, next-is, outputs-new, saves-after}
+use Rattle.tl_edge.proofs.Changes.{NoNewNames, RoomFor, after, files-same, next-is, outputs-new, saves-after}
 
 -- the records and their files, once those are added that an event adds
 abbrev AddedTo : Past → Option Kept → List (List FileId) → List (List Output) → Type 0
@@ -91,10 +91,11 @@ stands-after header actor act past gone edge stands room only names_older within
     let now = after actor act past in
     let few_now : suc (length past) < 2 ^ 64 = few in
     let place = room-for edge (added past act) room in
-    let files : files_of_all edge.inputs edge.next edge.count gone act edge.files ≡ files_in now (records past) =
-    (λ i. files_of_all (stands.inputs i) edge.next (stands.count i) gone act (stands.files i))
-    ∙ files-after edge.next gone actor act past within.numbered place only names_older few_now in
-    let all = act-added actor act past edge.next edge.inputs (files_of_all edge.inputs edge.next edge.count gone act edge.files) within numbered older place stands.inputs files in
+    let changed : List (List Output) = taken_up (next_of act edge.next) (files_after edge.inputs edge.count gone act edge.files) in
+    let files : changed ≡ files_in now (records past) =
+    (λ i. taken_up (next_of act edge.next) (files_after (stands.inputs i) (stands.count i) gone act (stands.files i)))
+    ∙ files-same edge.next gone actor act past within.numbered place only names_older few_now in
+    let all = act-added actor act past edge.next edge.inputs changed within numbered older place stands.inputs files in
     let le : length past ≤ length past = omega arith in
     record {
       inputs = all.0;

@@ -1,9 +1,10 @@
 -- What is kept to choose the file that is saved next, what one event makes of it, and the choice.
-use Rattle.std.specs.Prelude.{ℕ, ◌+◌, min, nat_lt, nat_le, Bool, true, false, ◌&&◌, ◌||◌, not, List, [], ◌∷◌, ◌++◌, map, slice_get, Option, Some, None, is_some, if◌then◌else◌}
+use Rattle.std.specs.Prelude.{ℕ, zero, suc, ◌+◌, min, nat_lt, nat_le, Bool, true, false, ◌&&◌, not, List, [], ◌∷◌, ◌++◌, map, slice_get, Option, Some, None, is_some, if◌then◌else◌}
 use Rattle.std.specs.List.{list_any}
-use Rattle.tl_types.specs.Same.{actor_same, file_same, record_same}
+use Rattle.tl_types.specs.Same.{actor_same, file_same}
 use Rattle.tl_types.specs.declared.actor.Actor.{Actor}
 use Rattle.tl_types.specs.declared.file_id.FileId.{FileId}
+use Rattle.tl_types.specs.declared.record_id.RecordId.{RecordId}
 use Rattle.tl_types.specs.declared.worker_id.WorkerId.{WorkerId}
 use Rattle.tl_model.specs.declared.command.Command.{Command}
 use Rattle.tl_model.specs.declared.command.Command.TheVariants.{Put, Job}
@@ -14,7 +15,9 @@ use Rattle.tl_model.specs.declared.event.Act.TheVariants.{Call, Served, Claim, D
 use Rattle.tl_model.specs.Past.{Plain}
 use Rattle.tl_model.specs.Tables.{better}
 use Rattle.tl_model.specs.Actors.{save_after, saves_file}
-use Rattle.tl_model.specs.Residency.{does, is_at}
+use Rattle.tl_model.specs.Residency.{is_at}
+use Rattle.tl_edge.specs.declared.change.Change.{Change}
+use Rattle.tl_edge.specs.declared.change.Change.TheVariants.{Bring, Make, Take, TakeFrom, Secure, CountRead, Unname, TakeUp}
 use Rattle.tl_edge.specs.declared.save.Save.{Save}
 use Rattle.tl_edge.specs.declared.output.Output.{Output}
 use Rattle.tl_edge.specs.declared.kept.Kept.{Kept}
@@ -44,7 +47,7 @@ save_step e actor before = if actor_same actor e.actor then save_after e.act bef
 abbrev pub save_next : Plain → Save → Save
 save_next e before = record { actor = before.actor; file = save_step e before.actor before.file }
 
--- ---- one event
+-- ---- records
 
 -- the number after this one, as long as there is one
 abbrev pub next_number : ℕ → ℕ
@@ -76,59 +79,143 @@ abbrev pub is_gone : Option FileId → FileId → Bool
 is_gone None f = false
 is_gone (Some lost) f = file_same f lost
 
--- the act accepts the next record, which has the file as input
-abbrev pub is_taken_up : Option Kept → Act (Unit {0}) → FileId → Bool
-is_taken_up None act f = false
-is_taken_up (Some kept) act f = accepts act && is_in f kept.inputs
+-- ---- files
 
-abbrev pub has_input_at : Option (List FileId) → FileId → Bool
-has_input_at None f = false
-has_input_at (Some inputs) f = is_in f inputs
-
--- the act reads the file, where these are the inputs of the accepted records
-abbrev pub is_use_now : List (List FileId) → Act (Unit {0}) → FileId → Bool
-is_use_now inputs (Served g digest) f = file_same f g
-is_use_now inputs (Claim worker made) f = has_input_at (slice_get inputs made.0) f
-is_use_now inputs _ f = false
-
-abbrev pub place_after_done : Bool → WorkerId → Option WorkerId → Option WorkerId
-place_after_done is_made worker (Some here) = Some here
-place_after_done is_made worker None = if is_made then Some worker else None
-
--- where a file is after an act, where before it it was here; a done brings each output of its record
-abbrev pub place_now : Act (Unit {0}) → FileId → Option WorkerId → Option WorkerId
-place_now (Load worker g) f here = if file_same f g then Some worker else here
-place_now (Done worker made) f here = place_after_done (record_same f.rec made) worker here
-place_now (Lose worker) f here = if is_at worker here then None else here
-place_now (Drop worker g) f here = if file_same f g && is_at worker here then None else here
-place_now (Free g) f here = if file_same f g then None else here
-place_now _ f here = here
-
-abbrev pub saves_now : Act (Unit {0}) → FileId → Bool
-saves_now (Saved g size digest) f = file_same f g
-saves_now _ f = false
+-- where a file is after its job was done on the worker
+abbrev pub place_made : WorkerId → Option WorkerId → Option WorkerId
+place_made worker (Some here) = Some here
+place_made worker None = Some worker
 
 -- a file whose record is just accepted
 abbrev pub new_output : FileId → Output
 new_output f = record { file = f; place = None; is_named = true; is_saved = false; is_leaf = true; reads = 0; last_done = 0 }
 
--- a file after the act of this place in the journal
-abbrev pub output_after : List (List FileId) → Option Kept → ℕ → Option FileId → Act (Unit {0}) → Output → Output
-output_after inputs next at gone act before = record {
-  file = before.file;
-  place = place_now act before.file before.place;
-  is_named = before.is_named && not (is_gone gone before.file);
-  is_saved = saves_now act before.file || before.is_saved;
-  is_leaf = before.is_leaf && not (is_taken_up next act before.file);
-  reads = if is_use_now inputs act before.file then next_number before.reads else before.reads;
-  last_done = if does before.file.rec act then at else before.last_done;
+-- a file after a change
+abbrev pub changed : Change → Output → Output
+changed (Bring worker) o = record {
+  file = o.file;
+  place = Some worker;
+  is_named = o.is_named;
+  is_saved = o.is_saved;
+  is_leaf = o.is_leaf;
+  reads = o.reads;
+  last_done = o.last_done;
+}
+changed (Make worker at) o = record {
+  file = o.file;
+  place = place_made worker o.place;
+  is_named = o.is_named;
+  is_saved = o.is_saved;
+  is_leaf = o.is_leaf;
+  reads = o.reads;
+  last_done = at;
+}
+changed Take o = record {
+  file = o.file;
+  place = None;
+  is_named = o.is_named;
+  is_saved = o.is_saved;
+  is_leaf = o.is_leaf;
+  reads = o.reads;
+  last_done = o.last_done;
+}
+changed (TakeFrom worker) o = record {
+  file = o.file;
+  place = if is_at worker o.place then None else o.place;
+  is_named = o.is_named;
+  is_saved = o.is_saved;
+  is_leaf = o.is_leaf;
+  reads = o.reads;
+  last_done = o.last_done;
+}
+changed Secure o = record {
+  file = o.file;
+  place = o.place;
+  is_named = o.is_named;
+  is_saved = true;
+  is_leaf = o.is_leaf;
+  reads = o.reads;
+  last_done = o.last_done;
+}
+changed CountRead o = record {
+  file = o.file;
+  place = o.place;
+  is_named = o.is_named;
+  is_saved = o.is_saved;
+  is_leaf = o.is_leaf;
+  reads = next_number o.reads;
+  last_done = o.last_done;
+}
+changed Unname o = record {
+  file = o.file;
+  place = o.place;
+  is_named = false;
+  is_saved = o.is_saved;
+  is_leaf = o.is_leaf;
+  reads = o.reads;
+  last_done = o.last_done;
+}
+changed TakeUp o = record {
+  file = o.file;
+  place = o.place;
+  is_named = o.is_named;
+  is_saved = o.is_saved;
+  is_leaf = false;
+  reads = o.reads;
+  last_done = o.last_done;
 }
 
-abbrev pub outputs_after : List (List FileId) → Option Kept → ℕ → Option FileId → Act (Unit {0}) → List Output → List Output
-outputs_after inputs next at gone act outputs = map (output_after inputs next at gone act) outputs
+abbrev pub changed_at : {A : Type 0} → ℕ → (A → A) → List A → List A
+changed_at n change [] = []
+changed_at zero change (x ∷ xs) = change x ∷ xs
+changed_at (suc n) change (x ∷ xs) = x ∷ changed_at n change xs
 
-abbrev pub files_of_all : List (List FileId) → Option Kept → ℕ → Option FileId → Act (Unit {0}) → List (List Output) → List (List Output)
-files_of_all inputs next at gone act files = map (outputs_after inputs next at gone act) files
+-- a change of one file
+abbrev pub with_file : Change → FileId → List (List Output) → List (List Output)
+with_file change f files = changed_at f.rec.0 (changed_at f.out (changed change)) files
+
+-- of all files of one record
+abbrev pub with_row : Change → RecordId → List (List Output) → List (List Output)
+with_row change made files = changed_at made.0 (map (changed change)) files
+
+-- of all files
+abbrev pub with_rows : Change → List (List Output) → List (List Output)
+with_rows change files = map (map (changed change)) files
+
+-- of each of these files, once
+abbrev pub with_each : Change → List FileId → List (List Output) → List (List Output)
+with_each change [] files = files
+with_each change (f ∷ fs) files = with_each change fs (if is_in f fs then files else with_file change f files)
+
+-- ---- one event
+
+abbrev pub unnamed : Option FileId → List (List Output) → List (List Output)
+unnamed None files = files
+unnamed (Some lost) files = with_file Unname lost files
+
+abbrev pub read_at : Option (List FileId) → List (List Output) → List (List Output)
+read_at None files = files
+read_at (Some inputs) files = with_each CountRead inputs files
+
+-- the files after the act of this place in the journal, but for names and for who has them as input
+abbrev pub acted : List (List FileId) → ℕ → Act (Unit {0}) → List (List Output) → List (List Output)
+acted inputs at (Served f digest) files = with_file CountRead f files
+acted inputs at (Claim worker made) files = read_at (slice_get inputs made.0) files
+acted inputs at (Done worker made) files = with_row (Make worker at) made files
+acted inputs at (Lose worker) files = with_rows (TakeFrom worker) files
+acted inputs at (Free f) files = with_file Take f files
+acted inputs at (Drop worker f) files = with_file (TakeFrom worker) f files
+acted inputs at (Load worker f) files = with_file (Bring worker) f files
+acted inputs at (Saved f size digest) files = with_file Secure f files
+acted inputs at _ files = files
+
+abbrev pub files_after : List (List FileId) → ℕ → Option FileId → Act (Unit {0}) → List (List Output) → List (List Output)
+files_after inputs at gone act files = acted inputs at act (unnamed gone files)
+
+-- the files once this record has its inputs
+abbrev pub taken_up : Option Kept → List (List Output) → List (List Output)
+taken_up None files = files
+taken_up (Some kept) files = with_each TakeUp kept.inputs files
 
 abbrev pub with_inputs : Option Kept → List (List FileId) → List (List FileId)
 with_inputs None inputs = inputs
@@ -142,7 +229,7 @@ with_files (Some kept) files = files ++ kept.outputs ∷ []
 abbrev pub edge_after : Plain → Option FileId → EdgeData → EdgeData
 edge_after e gone edge = record {
   inputs = with_inputs (next_of e.act edge.next) edge.inputs;
-  files = with_files (next_of e.act edge.next) (files_of_all edge.inputs edge.next edge.count gone e.act edge.files);
+  files = with_files (next_of e.act edge.next) (taken_up (next_of e.act edge.next) (files_after edge.inputs edge.count gone e.act edge.files));
   saves = map (save_next e) edge.saves;
   count = next_number edge.count;
   hot = edge.hot;

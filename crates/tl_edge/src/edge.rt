@@ -4,13 +4,15 @@ ghost use Rattle.tl_model.specs.declared.header.Header.{Header as HeaderOf};
 ghost use Rattle.tl_model.specs.Checkpoints.{next_save};
 ghost use Rattle.tl_model.specs.Past.{Past, act_with, event_with, without_tickets};
 ghost use Rattle.tl_model.specs.Rules.{all_permitted, lawful_judge};
-ghost use Rattle.tl_edge.specs.Data.{choice, edge_after, files_of_all, left_room, next_number, with_files, with_inputs};
+ghost use Rattle.tl_edge.specs.Data.{choice, edge_after, files_after, left_room, next_number, taken_up, with_each, with_files, with_inputs};
+ghost use Rattle.tl_edge.specs.declared.change.Change.TheVariants.{TakeUp};
 ghost use Rattle.tl_edge.specs.Standing.{HasRoom, HasRoomForAll, StandsFor, UnnamesOnly, added};
 
+use crate::acts::note_files;
+use crate::change::{Change, next_number};
 use crate::choice::choice;
 use crate::kept::{Kept, accepts, kept_of};
-use crate::output::next_number;
-use crate::outputs::{Outputs, note_files};
+use crate::outputs::{Outputs, change_each};
 use crate::save::{ACTORS, Save, new_saves, note_saves};
 use std::alloc::Global;
 use std::marker::Model;
@@ -137,7 +139,7 @@ fn note_all<T>(
     ensures places { IfSome next.new (λ _. (vec_len inputs.new < vec_capacity inputs.new) × (vec_len files.new < vec_capacity files.new)) }
 {
     note_saves(saves, event);
-    change_files(files, inputs, next, *count, gone, &event.act);
+    change_files(files, inputs, *count, gone, &event.act);
     if accepts(&event.act) {
         add_next(inputs, files, next);
     }
@@ -148,23 +150,22 @@ fn note_all<T>(
 fn change_files<T>(
     files: &mut Vec<Outputs>,
     inputs: &[Items<FileId>],
-    next: &Option<Kept>,
     at: u64,
     gone: Option<FileId>,
     act: &Act<T>,
 )
-    ensures files { files.new.items ≡ files_of_all inputs.now next.now at gone (act_with (λ _. tt) act.now) files.old.items }
+    ensures files { files.new.items ≡ files_after inputs.now at gone (act_with (λ _. tt) act.now) files.old.items }
     ensures len { vec_len files.new ≡ vec_len files.old }
     ensures capacity { vec_capacity files.new ≡ vec_capacity files.old }
 {
-    note_files(files, inputs, next, at, gone, act);
+    note_files(files, inputs, at, gone, act);
 }
 
 // Adds the record for which there is a place, if there is one.
 fn add_next(inputs: &mut Vec<Items<FileId>>, files: &mut Vec<Outputs>, next: &mut Option<Kept>)
     requires { IfSome next.old (λ _. (vec_len inputs.old < vec_capacity inputs.old) × (vec_len files.old < vec_capacity files.old)) }
     ensures inputs { inputs.new.items ≡ with_inputs next.old inputs.old.items }
-    ensures files { files.new.items ≡ with_files next.old files.old.items }
+    ensures files { files.new.items ≡ with_files next.old (taken_up next.old files.old.items) }
     ensures next { next.new ≡ None }
 {
     if let Some(kept) = next.take() {
@@ -172,9 +173,19 @@ fn add_next(inputs: &mut Vec<Items<FileId>>, files: &mut Vec<Outputs>, next: &mu
             inputs: read,
             outputs,
         } = kept;
+        take_up(files, read.as_slice());
         push_inputs(inputs, read);
         push_outputs(files, outputs);
     }
+}
+
+// The files once a record has these as inputs.
+fn take_up(files: &mut Vec<Outputs>, read: &[FileId])
+    ensures files { files.new.items ≡ with_each TakeUp read.now files.old.items }
+    ensures len { vec_len files.new ≡ vec_len files.old }
+    ensures capacity { vec_capacity files.new ≡ vec_capacity files.old }
+{
+    change_each(files, read, Change::TakeUp);
 }
 
 // Appends the inputs of a record to a vector that has room for them.

@@ -1,6 +1,8 @@
 //! Which file is saved next, kept in step with a journal event by event.
 #![tactic(auto)]
 
+mod acts;
+mod change;
 mod choice;
 mod edge;
 mod kept;

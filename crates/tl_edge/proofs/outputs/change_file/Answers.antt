@@ -1,0 +1,12 @@
+use Rattle.std.proofs.Common.{◌∙◌, ap, slice_set}
+use Rattle.tl_edge.specs.Data.{changed, changed_at}
+use Rattle.tl_edge.proofs.Lists.{set_changed, unchanged_past}
+use Rattle.tl_edge.proofs.outputs.change_file.Goals as goal
+
+pub returns-then-at-files : goal.returns-then-at-files
+returns-then-at-files c =
+    ap (λ x. slice_set c.args.files.now c.args.file.rec.0 x) c.change.ensures
+    ∙ set_changed c.args.files.now c.args.file.rec.0 c.index-files-at.result (changed_at c.args.file.out (changed c.args.change))
+
+pub returns-else-at-files : goal.returns-else-at-files
+returns-else-at-files c = unchanged_past c.args.files.now c.args.file.rec.0 (changed_at c.args.file.out (changed c.args.change)) c.if-at-files.false
