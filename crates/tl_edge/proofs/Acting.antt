@@ -7,10 +7,11 @@ use Rattle.tl_model.specs.declared.event.Act.{Act}
 use Rattle.tl_model.specs.declared.event.Act.TheVariants.{Served, Claim, Done, Lose, Free, Drop, Load, Saved}
 use Rattle.tl_model.specs.declared.record.Record.{Record}
 use Rattle.tl_model.specs.Residency.{does, is_at}
+use Rattle.tl_steps.specs.Steps.{accepts, next_of, place_after_done, place_now, saves_now}
 use Rattle.tl_edge.specs.declared.change.Change.TheVariants.{Bring, Make, Take, TakeFrom, Secure, CountRead, Unname, TakeUp}
 use Rattle.tl_edge.specs.declared.kept.Kept.{Kept}
 use Rattle.tl_edge.specs.declared.output.Output.{Output}
-use Rattle.tl_edge.specs.Data.{accepts, acted, files_after, is_gone, is_in, next_number, next_of, place_made, read_at, taken_up, unnamed}
+use Rattle.tl_edge.specs.Data.{acted, files_after, is_gone, is_in, next_number, read_at, taken_up, unnamed}
 use Rattle.tl_edge.proofs.Rows.{StartsAt, all-in-rows, changed_if, each-in-rows, file-in-rows, row-in-rows, rows}
 
 abbrev pub has_input_at : Option (List FileId) → FileId → Bool
@@ -22,23 +23,6 @@ abbrev pub is_use_now : List (List FileId) → Act (Unit {0}) → FileId → Boo
 is_use_now inputs (Served g digest) f = file_same f g
 is_use_now inputs (Claim worker made) f = has_input_at (slice_get inputs made.0) f
 is_use_now inputs _ f = false
-
-abbrev pub place_after_done : Bool → WorkerId → Option WorkerId → Option WorkerId
-place_after_done is_made worker (Some here) = Some here
-place_after_done is_made worker None = if is_made then Some worker else None
-
--- where a file is after an act, where before it it was here; a done brings each output of its record
-abbrev pub place_now : Act (Unit {0}) → FileId → Option WorkerId → Option WorkerId
-place_now (Load worker g) f here = if file_same f g then Some worker else here
-place_now (Done worker made) f here = place_after_done (record_same f.rec made) worker here
-place_now (Lose worker) f here = if is_at worker here then None else here
-place_now (Drop worker g) f here = if file_same f g && is_at worker here then None else here
-place_now (Free g) f here = if file_same f g then None else here
-place_now _ f here = here
-
-abbrev pub saves_now : Act (Unit {0}) → FileId → Bool
-saves_now (Saved g size digest) f = file_same f g
-saves_now _ f = false
 
 -- the next record is accepted, and has the file as input
 abbrev pub taken_with : Bool → Option Kept → FileId → Bool
@@ -86,7 +70,7 @@ counted : (b : Bool) (o : Output) → changed_if CountRead b o ≡ record {
 counted true o = refl
 counted false o = refl
 
-place-made : (b : Bool) (worker : WorkerId) (here : Option WorkerId) → (if b then place_made worker here else here) ≡ place_after_done b worker here
+place-made : (b : Bool) (worker : WorkerId) (here : Option WorkerId) → (if b then place_after_done true worker here else here) ≡ place_after_done b worker here
 place-made true worker None = refl
 place-made true worker (Some w) = refl
 place-made false worker None = refl
@@ -94,7 +78,7 @@ place-made false worker (Some w) = refl
 
 made-if : (b : Bool) (worker : WorkerId) (at : ℕ) (o : Output) → changed_if (Make worker at) b o ≡ record {
   file = o.file;
-  place = if b then place_made worker o.place else o.place;
+  place = if b then place_after_done true worker o.place else o.place;
   is_named = o.is_named;
   is_saved = o.is_saved;
   is_leaf = o.is_leaf;

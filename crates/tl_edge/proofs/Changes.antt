@@ -1,40 +1,35 @@
 -- What one event changes in what is kept of a file.
-use Rattle.std.proofs.Common.{◌≡◌, ◌∙◌, arith, ℕ, zero, suc, ◌+◌, ◌<◌, ◌≤◌, ◌^◌, Bool, true, false, ◌&&◌, ◌||◌, not, if◌then◌else◌, List, [], ◌∷◌, ◌++◌, length, map, slice_get, Option, Some, None, is_some, refl, sym, ap, append-nil}
+use Rattle.std.proofs.Common.{◌≡◌, ◌∙◌, arith, ℕ, zero, suc, ◌+◌, ◌<◌, ◌≤◌, ◌^◌, Bool, true, false, ◌&&◌, ◌||◌, not, if◌then◌else◌, List, [], ◌∷◌, ◌++◌, length, map, slice_get, Option, Some, None, refl, sym, ap, append-nil}
 use Rattle.std.specs.List.{AllByRecursion, list_any}
-use Rattle.std.proofs.lemmas.Bool.{lt-ltb}
 use Rattle.std.proofs.lemmas.List.Folds.{list_any-append}
-use Rattle.std.proofs.lemmas.Option.{slice_get_past}
-use Rattle.tl_types.specs.Same.{file_same, record_same, record_same-Decides}
 use Rattle.tl_types.specs.declared.actor.Actor.{Actor}
 use Rattle.tl_types.specs.declared.file_id.FileId.{FileId}
 use Rattle.tl_types.specs.declared.record_id.RecordId.{RecordId}
-use Rattle.tl_types.specs.declared.worker_id.WorkerId.{WorkerId}
 use Rattle.tl_model.specs.declared.event.Act.{Act}
-use Rattle.tl_model.specs.declared.event.Act.TheVariants.{Call, Claim, Done, Saved}
+use Rattle.tl_model.specs.declared.event.Act.TheVariants.{Call, Claim}
 use Rattle.tl_model.specs.declared.command.Command.{Command}
 use Rattle.tl_model.specs.declared.command.Command.TheVariants as command
 use Rattle.tl_model.specs.declared.reply.Reply.{Reply}
 use Rattle.tl_model.specs.declared.reply.Reply.TheVariants.{Made}
 use Rattle.tl_model.specs.declared.record.Record.{Record}
 use Rattle.tl_model.specs.Past.{Past, Plain}
-use Rattle.tl_model.specs.History.{files_at, files_from, has_input, has_output, id_of, inputs_of, is_named, is_output, names, output_count, outputs_of, record_at, record_made, records}
+use Rattle.tl_model.specs.History.{files_at, has_input, has_output, id_of, inputs_of, is_named, names, output_count, outputs_of, record_made, records}
 use Rattle.tl_model.specs.Actors.{actors}
-use Rattle.tl_model.specs.Residency.{SavedAs, claim_reads, does, is_saved, is_use, place, place_after, reads, saved_after, saved_as, was_done}
+use Rattle.tl_model.specs.Residency.{claim_reads, does, is_saved, is_use, place, reads, saved_as, was_done}
 use Rattle.tl_model.specs.Checkpoints.{is_leaf, last_done}
-use Rattle.tl_laws.specs.Numbers.{Numbered, get-last, get-within}
+use Rattle.tl_laws.specs.Numbers.{Numbered, get-within}
 use Rattle.tl_laws.specs.Made.{IsOutputOf}
 use Rattle.tl_laws.specs.Order.{HasOlderInputs, among-holds}
+use Rattle.tl_steps.specs.Steps.{accepts, added, next_of}
+use Rattle.tl_steps.specs.Within.{IsWithin}
+use Rattle.tl_steps.proofs.Lists.{map_after, map_same}
+use Rattle.tl_steps.proofs.Files.{after, each-file, is-output, new-number, not-true, not-yet, nowhere, place-same, saved-same}
 use Rattle.tl_edge.specs.declared.kept.Kept.{Kept}
 use Rattle.tl_edge.specs.declared.output.Output.{Output}
-use Rattle.tl_edge.specs.Data.{accepts, files_after, is_gone, is_in, new_output, next_number, next_of, save_next, taken_up}
-use Rattle.tl_edge.specs.Standing.{UnnamesOnly, added, files_in, kept_of, output_of, outputs_in, save_of}
-use Rattle.tl_edge.proofs.Lists.{map_after, map_same}
-use Rattle.tl_edge.proofs.Within.{IsWithin}
+use Rattle.tl_edge.specs.Data.{files_after, is_gone, is_in, new_output, next_number, save_next, taken_up}
+use Rattle.tl_edge.specs.Standing.{UnnamesOnly, files_in, kept_of, output_of, outputs_in, save_of}
 use Rattle.tl_edge.proofs.Rows.{starts}
-use Rattle.tl_edge.proofs.Acting.{after-in-rows, has_input_at, is_taken_up, is_use_now, output_after, place_after_done, place_now, saves_now, taken_with}
-
-abbrev pub after : Actor → Act (Unit {0}) → Past → Past
-after actor act past = record { actor = actor; act = act } ∷ past
+use Rattle.tl_edge.proofs.Acting.{after-in-rows, has_input_at, is_taken_up, is_use_now, output_after, taken_with}
 
 -- there is a place for each record that is added
 abbrev pub RoomFor : Option Kept → List Record → Type 0
@@ -45,30 +40,6 @@ RoomFor next (r ∷ rs) = next ≡ Some (kept_of r)
 
 pub saves-after : (e : Plain) (past : Past) → map (save_next e) (map (save_of past) actors) ≡ map (save_of (e ∷ past)) actors
 saves-after e past = map_after (save_of past) (save_next e) actors
-
--- ---- where a file is, and whether it is saved
-
-done-some : (past : Past) (worker : WorkerId) (made : RecordId) (f : FileId) (here : Option WorkerId) → record_same f.rec made ≡ is_output past f made →
-    place_after_done (record_same f.rec made) worker here ≡ place_after past (Done worker made) f here
-done-some past worker made f (Some w) same = refl
-done-some past worker made f None same = ap (λ b. if b then Some worker else None) same
-
-output-if : (past : Past) (f : FileId) (made : RecordId) (b : Bool) → record_same f.rec made ≡ b → IsOutputOf (records past) f → b ≡ (b && has_output (record_at past made) f.out)
-output-if past f made false e is = refl
-output-if past f made true e is =
-    sym (ap (λ (r : RecordId). has_output (record_at past r) f.out) (sym ((record_same-Decides f.rec made).0 e)) ∙ is)
-
-place-same : (past : Past) (act : Act (Unit {0})) (f : FileId) (here : Option WorkerId) → IsOutputOf (records past) f → place_now act f here ≡ place_after past act f here
-place-same past (Done worker made) f here is = done-some past worker made f here (output-if past f made (record_same f.rec made) refl is)
-place-same past _ f here is = refl
-
-saved-or : (b : Bool) (x : SavedAs) (before : Option SavedAs) → (b || is_some before) ≡ is_some (if b then Some x else before)
-saved-or true x before = refl
-saved-or false x before = refl
-
-saved-same : (act : Act (Unit {0})) (f : FileId) (before : Option SavedAs) → (saves_now act f || is_some before) ≡ is_some (saved_after act f before)
-saved-same (Saved g size digest) f before = saved-or (file_same f g) (record { size = size; digest = digest }) before
-saved-same _ f before = refl
 
 -- ---- names
 
@@ -178,17 +149,6 @@ output-same next lost actor act past f is room only older few =
       last_done = last_done (after actor act past) f.rec;
     }
 
-each-file : (F G : FileId → Output) (id : RecordId) (k n t : ℕ) → t ≡ k + n → ((j : ℕ) → j < t → F (record { rec = id; out = j }) ≡ G (record { rec = id; out = j })) →
-    map F (files_from id k n) ≡ map G (files_from id k n)
-each-file F G id k zero t place h = refl
-each-file F G id k (suc n) t place h =
-    λ i. h k (omega arith) i ∷ each-file F G id (k + 1) n t (omega arith) h i
-
-is-output : (rs : List Record) (r : Record) (at : ℕ) (j : ℕ) → Numbered rs → slice_get rs at ≡ Some r → j < output_count r → IsOutputOf rs (record { rec = id_of r; out = j })
-is-output rs r at j numbered got less =
-    let place : slice_get rs (id_of r).0 ≡ Some r = ap (λ (id : RecordId). slice_get rs id.0) (numbered at r got) ∙ got in
-    ap (λ o. has_output o j) place ∙ lt-ltb j (output_count r) less
-
 -- the files of all records
 pub files-same : (next : Option Kept) (lost : Option FileId) (actor : Actor) (act : Act (Unit {0})) (past : Past) → Numbered (records past) →
     RoomFor next (added past act) → UnnamesOnly past (record { actor = actor; act = act }) lost → NoNewNames past (after actor act past) → suc (length past) < 2 ^ 64 →
@@ -202,26 +162,6 @@ files-same next lost actor act past numbered room only older few =
     (λ j less. output-same next lost actor act past (record { rec = id_of r; out = j }) (is-output (records past) r at j numbered got less) room only older few))
 
 -- ---- a record that a call adds
-
-not-true : (b : Bool) → (b ≡ true → ⊥) → b ≡ false
-not-true true never = absurd (never refl)
-not-true false never = refl
-
-nowhere : {A : Type 0} (o : Option A) → (is_some o ≡ true → ⊥) → o ≡ None
-nowhere None never = refl
-nowhere (Some x) never = absurd (never refl)
-
--- it is not there yet
-not-yet : (past : Past) (id : RecordId) (j : ℕ) → id.0 ≡ length (records past) → IsOutputOf (records past) (record { rec = id; out = j }) → ⊥
-not-yet past id j place is =
-    let none : slice_get (records past) id.0 ≡ None = slice_get_past (records past) id.0 (omega arith) in
-    let never : false ≡ true = ap (λ o. has_output o j) (sym none) ∙ is in
-    absurd (cc)
-
-new-number : (past now : Past) (r : Record) → records now ≡ records past ++ r ∷ [] → Numbered (records now) → (id_of r).0 ≡ length (records past)
-new-number past now r is numbered =
-    ap (λ (id : RecordId). id.0)
-    (numbered (length (records past)) r (ap (λ rs. slice_get rs (length (records past))) is ∙ get-last (records past) r (length (records past)) refl))
 
 both-false : (a b : Bool) → a ≡ false → b ≡ false → (a || b) ≡ false
 both-false true b e h = absurd (cc)

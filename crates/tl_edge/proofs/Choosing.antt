@@ -12,11 +12,11 @@ use Rattle.tl_model.specs.Actors.{actors, is_being_saved, saves_file}
 use Rattle.tl_model.specs.Residency.{is_resident, is_saved, reads}
 use Rattle.tl_model.specs.Eviction.{first_of}
 use Rattle.tl_model.specs.Checkpoints.{can_be_saved, done_sooner, edge, hot_files, is_hot, is_leaf, leaves, next_save, read_more}
+use Rattle.tl_steps.proofs.Lists.{any_map}
 use Rattle.tl_edge.specs.declared.output.Output.{Output}
 use Rattle.tl_edge.specs.declared.save.Save.{Save}
 use Rattle.tl_edge.specs.Data.{EdgeData, best_at, choice, done_before, first_hot, first_in, first_in_all, first_leaf, first_step, is_being_saved_in, is_hot_file, is_saved_leaf, or_hot, read_before}
 use Rattle.tl_edge.specs.Standing.{StandsFor, files_in, output_of, outputs_in, save_of}
-use Rattle.tl_edge.proofs.Lists.{any_map}
 
 -- ---- the first of a list in an order
 

@@ -5,4 +5,3 @@ pub mod Lists
 pub mod Named
 pub mod Noting
 pub mod Rows
-pub mod Within

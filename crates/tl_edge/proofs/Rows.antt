@@ -6,10 +6,11 @@ use Rattle.tl_types.specs.declared.record_id.RecordId.{RecordId}
 use Rattle.tl_model.specs.declared.record.Record.{Record}
 use Rattle.tl_model.specs.History.{files_from, id_of, output_count, outputs_of}
 use Rattle.tl_laws.specs.Numbers.{Numbered}
+use Rattle.tl_steps.proofs.Lists.{map_after}
+use Rattle.tl_steps.proofs.Files.{not-true}
 use Rattle.tl_edge.specs.declared.change.Change.{Change}
 use Rattle.tl_edge.specs.declared.output.Output.{Output}
 use Rattle.tl_edge.specs.Data.{changed, changed_at, is_in, with_each, with_file, with_row, with_rows}
-use Rattle.tl_edge.proofs.Lists.{map_after}
 
 -- the records are numbered from n on
 abbrev pub StartsAt : ℕ → List Record → Type 0
@@ -25,10 +26,6 @@ starts-from n (r ∷ rs) h = (
 
 pub starts : (rs : List Record) → Numbered rs → StartsAt 0 rs
 starts rs numbered = starts-from 0 rs (λ i r at. let e : (id_of r).0 ≡ i = ap (λ (id : RecordId). id.0) (numbered i r at) in omega arith)
-
-not-true : (b : Bool) → (b ≡ true → ⊥) → b ≡ false
-not-true true never = absurd (never refl)
-not-true false never = refl
 
 -- what is kept of each file, by record
 abbrev pub rows : (FileId → Output) → List Record → List (List Output)

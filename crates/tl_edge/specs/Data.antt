@@ -5,17 +5,13 @@ use Rattle.tl_types.specs.Same.{actor_same, file_same}
 use Rattle.tl_types.specs.declared.actor.Actor.{Actor}
 use Rattle.tl_types.specs.declared.file_id.FileId.{FileId}
 use Rattle.tl_types.specs.declared.record_id.RecordId.{RecordId}
-use Rattle.tl_types.specs.declared.worker_id.WorkerId.{WorkerId}
-use Rattle.tl_model.specs.declared.command.Command.{Command}
-use Rattle.tl_model.specs.declared.command.Command.TheVariants.{Put, Job}
-use Rattle.tl_model.specs.declared.reply.Reply.{Reply}
-use Rattle.tl_model.specs.declared.reply.Reply.TheVariants.{Made}
 use Rattle.tl_model.specs.declared.event.Act.{Act}
-use Rattle.tl_model.specs.declared.event.Act.TheVariants.{Call, Served, Claim, Done, Lose, Free, Drop, Load, Saved}
+use Rattle.tl_model.specs.declared.event.Act.TheVariants.{Served, Claim, Done, Lose, Free, Drop, Load, Saved}
 use Rattle.tl_model.specs.Past.{Plain}
 use Rattle.tl_model.specs.Tables.{better}
 use Rattle.tl_model.specs.Actors.{save_after, saves_file}
 use Rattle.tl_model.specs.Residency.{is_at}
+use Rattle.tl_steps.specs.Steps.{left_room, next_of, place_after_done}
 use Rattle.tl_edge.specs.declared.change.Change.{Change}
 use Rattle.tl_edge.specs.declared.change.Change.TheVariants.{Bring, Make, Take, TakeFrom, Secure, CountRead, Unname, TakeUp}
 use Rattle.tl_edge.specs.declared.save.Save.{Save}
@@ -53,24 +49,6 @@ save_next e before = record { actor = before.actor; file = save_step e before.ac
 abbrev pub next_number : ℕ → ℕ
 next_number n = min (n + 1) 18446744073709551615
 
-abbrev pub accepts_with : Reply → Command (Unit {0}) → Bool
-accepts_with (Made made) (Put path len digest ticket) = true
-accepts_with (Made made) (Job core prio inputs outputs) = true
-accepts_with _ _ = false
-
--- whether an act accepts a record
-abbrev pub accepts : Act (Unit {0}) → Bool
-accepts (Call command reply) = accepts_with reply command
-accepts _ = false
-
--- the record that an act accepts, of the one for which there is a place
-abbrev pub next_of : Act (Unit {0}) → Option Kept → Option Kept
-next_of act next = if accepts act then next else None
-
--- the place that is left
-abbrev pub left_room : Act (Unit {0}) → Option Kept → Option Kept
-left_room act next = if accepts act then None else next
-
 abbrev pub is_in : FileId → List FileId → Bool
 is_in f fs = list_any (file_same f) fs
 
@@ -80,11 +58,6 @@ is_gone None f = false
 is_gone (Some lost) f = file_same f lost
 
 -- ---- files
-
--- where a file is after its job was done on the worker
-abbrev pub place_made : WorkerId → Option WorkerId → Option WorkerId
-place_made worker (Some here) = Some here
-place_made worker None = Some worker
 
 -- a file whose record is just accepted
 abbrev pub new_output : FileId → Output
@@ -103,7 +76,7 @@ changed (Bring worker) o = record {
 }
 changed (Make worker at) o = record {
   file = o.file;
-  place = place_made worker o.place;
+  place = place_after_done true worker o.place;
   is_named = o.is_named;
   is_saved = o.is_saved;
   is_leaf = o.is_leaf;

@@ -3,11 +3,9 @@ use Rattle.std.specs.Prelude.{◌≡◌, Bool, ◌&&◌, not, List, [], ◌∷�
 use Rattle.tl_types.specs.declared.actor.Actor.{Actor}
 use Rattle.tl_types.specs.declared.file_id.FileId.{FileId}
 use Rattle.tl_model.specs.declared.header.Header.{Header}
-use Rattle.tl_model.specs.declared.event.Act.{Act}
-use Rattle.tl_model.specs.declared.event.Act.TheVariants.{Call}
 use Rattle.tl_model.specs.declared.record.Record.{Record}
 use Rattle.tl_model.specs.Past.{Past, Plain}
-use Rattle.tl_model.specs.History.{inputs_of, is_named, names, outputs_of, record_made, records}
+use Rattle.tl_model.specs.History.{inputs_of, is_named, outputs_of, records}
 use Rattle.tl_model.specs.Actors.{actors, open_save}
 use Rattle.tl_model.specs.Residency.{is_saved, place, reads}
 use Rattle.tl_model.specs.Checkpoints.{is_leaf, last_done}
@@ -60,11 +58,6 @@ HasRoom edge r = edge.next ≡ Some (kept_of r)
 abbrev pub HasRoomForAll : EdgeData → List Record → Type 0
 HasRoomForAll edge [] = Unit {0}
 HasRoomForAll edge (r ∷ rs) = HasRoom edge r
-
--- the record that an act adds after a past, if it adds one
-abbrev pub added : Past → Act (Unit {0}) → List Record
-added past (Call command reply) = record_made reply command (names past)
-added past _ = []
 
 -- ---- names
 

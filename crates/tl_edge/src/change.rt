@@ -1,11 +1,12 @@
 //! What becomes of a file.
 
-ghost use Rattle.std.specs.Prelude.{◌≡◌, None, if◌then◌else◌};
+ghost use Rattle.std.specs.Prelude.{◌≡◌, true, None, if◌then◌else◌};
 ghost use Rattle.tl_model.specs.Residency.{is_at};
-ghost use Rattle.tl_edge.specs.Data.{changed, next_number, place_made};
+ghost use Rattle.tl_steps.specs.Steps.{place_after_done};
+ghost use Rattle.tl_edge.specs.Data.{changed, next_number};
 
 use crate::output::Output;
-use crate::same::same_worker;
+use tl_steps::same_worker;
 use tl_types::WorkerId;
 
 /// What an event does to a file.
@@ -79,7 +80,7 @@ pub(crate) fn next_number(number: u64) -> u64
 
 // Where a file is after its job was done on the worker, where before it was here.
 fn place_made(worker: WorkerId, here: Option<WorkerId>) -> Option<WorkerId>
-    ensures { result ≡ place_made worker here }
+    ensures { result ≡ place_after_done true worker here }
 {
     match here {
         Some(_) => here,

@@ -4,19 +4,21 @@ ghost use Rattle.tl_model.specs.declared.header.Header.{Header as HeaderOf};
 ghost use Rattle.tl_model.specs.Checkpoints.{next_save};
 ghost use Rattle.tl_model.specs.Past.{Past, act_with, event_with, without_tickets};
 ghost use Rattle.tl_model.specs.Rules.{all_permitted, lawful_judge};
-ghost use Rattle.tl_edge.specs.Data.{choice, edge_after, files_after, left_room, next_number, taken_up, with_each, with_files, with_inputs};
+ghost use Rattle.tl_edge.specs.Data.{choice, edge_after, files_after, next_number, taken_up, with_each, with_files, with_inputs};
 ghost use Rattle.tl_edge.specs.declared.change.Change.TheVariants.{TakeUp};
-ghost use Rattle.tl_edge.specs.Standing.{HasRoom, HasRoomForAll, StandsFor, UnnamesOnly, added};
+ghost use Rattle.tl_edge.specs.Standing.{HasRoom, HasRoomForAll, StandsFor, UnnamesOnly};
+ghost use Rattle.tl_steps.specs.Steps.{added, left_room};
 
 use crate::acts::note_files;
 use crate::change::{Change, next_number};
 use crate::choice::choice;
-use crate::kept::{Kept, accepts, kept_of};
+use crate::kept::{Kept, kept_of};
 use crate::outputs::{Outputs, change_each};
-use crate::save::{ACTORS, Save, new_saves, note_saves};
+use crate::save::{Save, new_saves, note_saves};
 use std::alloc::Global;
 use std::marker::Model;
 use tl_model::{Act, Event, Header, Record};
+use tl_steps::{SEATS, accepts};
 use tl_types::{FileId, Items, NoMemory};
 
 /// Which file is saved next. Contracts see what is kept of records, files and saves, how many events were
@@ -26,7 +28,7 @@ use tl_types::{FileId, Items, NoMemory};
 pub struct Edge {
     inputs: Vec<Items<FileId>>,
     files: Vec<Outputs>,
-    saves: [Save; ACTORS],
+    saves: [Save; SEATS],
     count: u64,
     hot: u32,
     next: Option<Kept>,
@@ -127,7 +129,7 @@ impl Edge {
 fn note_all<T>(
     inputs: &mut Vec<Items<FileId>>,
     files: &mut Vec<Outputs>,
-    saves: &mut [Save; ACTORS],
+    saves: &mut [Save; SEATS],
     count: &mut u64,
     next: &mut Option<Kept>,
     event: &Event<T>,

@@ -1,13 +1,11 @@
 //! A record for which there is a place.
 
 ghost use Rattle.std.specs.Prelude.{◌≡◌, IfOk};
-ghost use Rattle.tl_model.specs.Past.{act_with};
-ghost use Rattle.tl_edge.specs.Data.{accepts};
 ghost use Rattle.tl_edge.specs.Standing.{kept_of};
 
 use crate::outputs::Outputs;
 use std::alloc::Global;
-use tl_model::{Act, Command, Record, Reply};
+use tl_model::Record;
 use tl_types::{FileId, Items, NoMemory};
 
 /// A record's inputs, and the files that it makes.
@@ -35,15 +33,5 @@ pub(crate) fn kept_of(alloc: Global, rec: &Record) -> Result<Kept, NoMemory>
             inputs: Items::from_vec(inputs.as_slice().to_vec(alloc)?),
             outputs: Outputs::new(alloc, *id, *outputs)?,
         }),
-    }
-}
-
-/// Whether the act accepts a record.
-pub(crate) fn accepts<T>(act: &Act<T>) -> bool
-    ensures { result ≡ accepts (act_with (λ _. tt) act.now) }
-{
-    match act {
-        Act::Call(Command::Put { .. } | Command::Job { .. }, Reply::Made(_)) => true,
-        _ => false,
     }
 }

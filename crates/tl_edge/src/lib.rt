@@ -9,7 +9,6 @@ mod kept;
 mod laws;
 mod output;
 mod outputs;
-mod same;
 mod save;
 
 pub use edge::Edge;

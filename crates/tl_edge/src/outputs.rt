@@ -6,9 +6,9 @@ ghost use Rattle.tl_edge.specs.Data.{changed, changed_at, is_in, new_output, wit
 
 use crate::change::{Change, changed};
 use crate::output::{Output, new_output};
-use crate::same::same_file;
 use std::alloc::Global;
 use std::marker::Model;
+use tl_steps::same_file;
 use tl_types::{FileId, NoMemory, RecordId};
 
 /// The files that a record makes, in order. Contracts see them as a list.

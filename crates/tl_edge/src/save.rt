@@ -6,8 +6,8 @@ ghost use Rattle.tl_model.specs.Past.{act_with, event_with};
 ghost use Rattle.tl_model.specs.Actors.{actors, save_after, saves_file};
 ghost use Rattle.tl_edge.specs.Data.{is_being_saved_in, new_save, save_next, save_step};
 
-use crate::same::{same_actor, same_file};
 use tl_model::{Act, Event};
+use tl_steps::{SEATS, same_actor, same_file};
 use tl_types::{Actor, FileId};
 
 /// An actor with the file of the save that it has open.
@@ -17,11 +17,8 @@ pub struct Save {
     pub file: Option<FileId>,
 }
 
-/// The number of actors.
-pub(crate) const ACTORS: usize = 16;
-
 /// Everyone who makes events, with no save open.
-pub(crate) fn new_saves() -> [Save; ACTORS]
+pub(crate) fn new_saves() -> [Save; SEATS]
     ensures { result ≡ map new_save actors }
 {
     [

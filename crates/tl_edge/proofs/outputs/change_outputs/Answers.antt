@@ -1,6 +1,6 @@
 use Rattle.std.proofs.Common.{rules, ◌∙◌, ap, slice_set}
 use Rattle.tl_edge.specs.Data.{changed}
-use Rattle.tl_edge.proofs.Lists.{changed_all, changed_first, changed_next}
+use Rattle.tl_steps.proofs.Lists.{changed_all, changed_first, changed_next}
 use Rattle.tl_edge.proofs.outputs.change_outputs.Goals as goal
 
 pub loop-output-preserved : goal.loop-output-preserved

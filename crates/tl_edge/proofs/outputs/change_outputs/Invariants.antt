@@ -1,6 +1,6 @@
 use Rattle.std.proofs.Common.{◌≡◌}
 use Rattle.tl_edge.specs.Data.{changed}
-use Rattle.tl_edge.proofs.Lists.{changed_first}
+use Rattle.tl_steps.proofs.Lists.{changed_first}
 use Rattle.tl_edge.proofs.outputs.change_outputs.Given as goal
 
 abbrev pub invariant-loop-output : goal.invariant-loop-output

@@ -1,6 +1,6 @@
 use Rattle.std.proofs.Common.{◌≡◌, map}
 use Rattle.tl_edge.specs.Data.{changed}
-use Rattle.tl_edge.proofs.Lists.{changed_first}
+use Rattle.tl_steps.proofs.Lists.{changed_first}
 use Rattle.tl_edge.proofs.outputs.change_rows.Given as goal
 
 abbrev pub invariant-loop-outputs : goal.invariant-loop-outputs

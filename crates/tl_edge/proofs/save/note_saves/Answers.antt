@@ -1,7 +1,7 @@
 use Rattle.std.proofs.Common.{rules, ◌∙◌, ap, slice_set}
 use Rattle.tl_model.specs.Past.{event_with}
 use Rattle.tl_edge.specs.Data.{save_next}
-use Rattle.tl_edge.proofs.Lists.{changed_all, changed_first, changed_next}
+use Rattle.tl_steps.proofs.Lists.{changed_all, changed_first, changed_next}
 use Rattle.tl_edge.proofs.save.note_saves.Goals as goal
 
 pub loop-save-preserved : goal.loop-save-preserved

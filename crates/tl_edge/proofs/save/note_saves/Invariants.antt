@@ -1,7 +1,7 @@
 use Rattle.std.proofs.Common.{◌≡◌}
 use Rattle.tl_model.specs.Past.{event_with}
 use Rattle.tl_edge.specs.Data.{save_next}
-use Rattle.tl_edge.proofs.Lists.{changed_first}
+use Rattle.tl_steps.proofs.Lists.{changed_first}
 use Rattle.tl_edge.proofs.save.note_saves.Given as goal
 
 abbrev pub invariant-loop-save : goal.invariant-loop-save
