@@ -11,5 +11,7 @@ pub mod Settles
 pub mod Several
 pub mod Sizes
 pub mod Sooner
+pub mod Sorted
 pub mod Steps
 pub mod Together
+pub mod Used

@@ -1,16 +1,16 @@
-ghost use Rattle.std.specs.Prelude.{◌≡◌, ◌+◌, ◌<◌, ◌≤◌, ◌^◌, ◌-◌, ◌==◌, ◌&&◌, false, is_none, [], Some, length, slice_get, is_some, IfSome, IfOk, IfErr, OnOk, OnErr};
+ghost use Rattle.std.specs.Prelude.{◌≡◌, ◌+◌, ◌<◌, ◌≤◌, ◌^◌, ◌-◌, ◌==◌, ◌&&◌, true, false, is_none, [], Some, length, slice_get, is_some, IfSome, IfOk, IfErr, OnOk, OnErr};
 ghost use Rattle.std.specs.List.{AllByRecursion};
 ghost use Rattle.std.specs.Option.{option_map};
 ghost use Rattle.tl_fleet.specs.Workers.{IsOnce, new_workers, is_resident, found, found_block, worker_found, installed, all_touched, all_without, lost, first_to_drop, dropped, incarnation_of, changed_at, with_blocks, put_front, emptied, to_drop};
 ghost use Rattle.tl_fleet.specs.Order.{Ascends, IsNumbered, IsOfFile, ExceptsBy, StandsInOrder, due, sight_of};
-ghost use Rattle.tl_fleet.specs.Events.{after_load, after_done, after_served, after_free, after_drop, after_loss, among, files_of, installed_each};
+ghost use Rattle.tl_fleet.specs.Events.{after_load, after_done, after_served, after_free, after_drop, after_loss, after_claim, among, files_of, installed_each, touched_each};
 ghost use Rattle.tl_types.specs.declared.actor.Actor.{Actor as By};
 ghost use Rattle.tl_types.specs.declared.digest.Digest.{Digest as Sum};
 ghost use Rattle.tl_types.specs.declared.record_id.RecordId.{RecordId};
 ghost use Rattle.tl_model.specs.Eviction.{Sizes};
 ghost use Rattle.tl_model.specs.History.{is_output};
 ghost use Rattle.tl_model.specs.Past.{Past};
-ghost use Rattle.tl_model.specs.Residency.{place};
+ghost use Rattle.tl_model.specs.Residency.{place, reads_of_claim};
 ghost use Rattle.tl_model.specs.declared.header.Header.{Header};
 ghost use Rattle.tl_store.specs.Contents.{block_size, without};
 
@@ -140,6 +140,17 @@ impl Fleet {
         touch_all(&mut self.workers, f);
     }
 
+    /// Makes each of these files in turn the most recently used of its worker, so that the last is in
+    /// front. A file on no worker changes nothing.
+    pub fn touch_each(&mut self, files: &[FileId])
+        ensures touched { self.new ≡ touched_each files.now self.old }
+        ensures stands { (sizes : Sizes) (header : Header) (past : Past) (actor : By) (w : WorkerId) (made : RecordId) → StandsInOrder sizes header past self.old →
+            Ascends files.now → ((f : FileId) → is_some (place past f) ≡ true → among f files.now ≡ reads_of_claim past f made) →
+            StandsInOrder sizes header (after_claim actor w made past) self.new }
+    {
+        touch_files(&mut self.workers, files);
+    }
+
     /// Takes a file out of its worker. A file on no worker changes nothing.
     pub fn free(&mut self, f: FileId)
         ensures free { self.new ≡ all_without f self.old }
@@ -234,6 +245,15 @@ fn touch_all(workers: &mut [Worker], f: FileId)
 {
     for worker in workers.iter_mut() {
         worker.store.touch(f);
+    }
+}
+
+// Makes each of the files in turn the most recently used of each worker that has it.
+fn touch_files(workers: &mut [Worker], files: &[FileId])
+    ensures { workers.new ≡ touched_each files.now workers.old }
+{
+    for f in files {
+        touch_all(workers, *f);
     }
 }
 

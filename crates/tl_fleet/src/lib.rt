@@ -6,6 +6,7 @@ mod finds;
 mod fleet;
 mod installs;
 mod laws;
+mod sorts;
 mod worker;
 
 pub use finds::{
@@ -15,4 +16,5 @@ pub use finds::{
 };
 pub use fleet::Fleet;
 pub use laws::{claim_keeps_order, done_keeps_order, other_events_keep_order};
+pub use sorts::ascending;
 pub use tl_store::Excepted;
