@@ -1,11 +1,15 @@
-//! Tests of the crates that keep blocks, files and records, a module for each crate. They stand apart so that
+//! Tests of the crates that keep blocks, files and records, a module for each crate, and the jobs of those. They stand apart so that
 //! those crates are not proved again beside them.
 #![tactic(auto)]
 
 #[cfg(test)]
 mod depot;
 #[cfg(test)]
+mod edge;
+#[cfg(test)]
 mod fleet;
+#[cfg(test)]
+mod jobs;
 #[cfg(test)]
 mod lineage;
 #[cfg(test)]
