@@ -1,7 +1,7 @@
 ghost use Rattle.std.specs.Prelude.{◌≡◌, IfOk};
 
 use std::test::Fail;
-use tl_fleet::{Excepted, Fleet};
+use tl_fleet::{Excepted, Fleet, ascending};
 use tl_types::{Block, Bytes, FileId, Outcome, RecordId, Shared, WorkerId};
 
 fn file(n: u32) -> FileId
@@ -93,6 +93,67 @@ fn blocks_come_at_once(rt: HostRuntime) -> Result<(), Fail> {
         assert_eq!(rt; fleet.settle_one(&Below(0)), Some((WorkerId(0), file(n))));
     }
     assert_eq!(rt; fleet.settle_one(&Below(0)), None);
+    Ok(())
+}
+
+// The files of these records and outputs.
+fn files(rt: &HostRuntime, ids: &[(u32, u8)]) -> Result<Vec<FileId>, Fail> {
+    let mut files = Vec::new(rt.alloc());
+    for (rec, out) in ids {
+        files.push(FileId {
+            rec: RecordId(*rec),
+            out: *out,
+        })?;
+    }
+    Ok(files)
+}
+
+// Whether files, each once and in ascending order, are these.
+fn ascend_as(rt: &HostRuntime, ids: &[(u32, u8)], sorted: &[(u32, u8)]) -> Result<bool, Fail> {
+    let found = ascending(rt.alloc(), &files(rt, ids)?)?;
+    Ok(found == files(rt, sorted)?)
+}
+
+#[test]
+fn files_ascend(rt: HostRuntime) -> Result<(), Fail> {
+    let rows: [(&[(u32, u8)], &[(u32, u8)]); 4] = [
+        (&[], &[]),
+        (&[(5, 0)], &[(5, 0)]),
+        (&[(2, 1), (2, 1), (2, 1)], &[(2, 1)]),
+        (
+            &[(7, 0), (1, 9), (7, 0), (1, 2), (0, 3)],
+            &[(0, 3), (1, 2), (1, 9), (7, 0)],
+        ),
+    ];
+    for (ids, sorted) in rows {
+        assert!(rt; ascend_as(&rt, ids, sorted)?);
+    }
+    Ok(())
+}
+
+// Whether files 1, 2 and 3 are dropped in this order once these files were used.
+fn drops_after(rt: &HostRuntime, used: &[(u32, u8)], dropped: [u32; 3]) -> Result<bool, Fail> {
+    let mut fleet = three_at_once(rt)?;
+    fleet.touch_each(&files(rt, used)?);
+    for n in dropped {
+        if fleet.settle_one(&Below(0)) != Some((WorkerId(0), file(n))) {
+            return Ok(false);
+        }
+    }
+    Ok(fleet.settle_one(&Below(0)).is_none())
+}
+
+#[test]
+fn used_files_are_dropped_last(rt: HostRuntime) -> Result<(), Fail> {
+    let rows: [(&[(u32, u8)], [u32; 3]); 4] = [
+        (&[], [1, 2, 3]),
+        (&[(1, 0)], [2, 3, 1]),
+        (&[(1, 0), (2, 0)], [3, 1, 2]),
+        (&[(2, 0), (9, 0), (1, 0), (3, 1)], [3, 2, 1]),
+    ];
+    for (used, dropped) in rows {
+        assert!(rt; drops_after(&rt, used, dropped)?);
+    }
     Ok(())
 }
 
