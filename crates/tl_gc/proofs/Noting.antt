@@ -1,0 +1,184 @@
+-- What is kept stands for the past with one event more.
+use Rattle.std.proofs.Common.{◌≡◌, ◌∙◌, arith, ℕ, ◌<◌, Bool, true, false, ◌&&◌, not, List, [], ◌∷◌, ◌++◌, length, map, slice_get, Option, Some, None, refl, sym, ap, append-nil}
+use Rattle.tl_types.specs.declared.actor.Actor.{Actor}
+use Rattle.tl_types.specs.declared.file_id.FileId.{FileId}
+use Rattle.tl_types.specs.declared.record_id.RecordId.{RecordId}
+use Rattle.tl_model.specs.declared.header.Header.{Header}
+use Rattle.tl_model.specs.declared.command.Command.{Command}
+use Rattle.tl_model.specs.declared.command.Command.TheVariants as command
+use Rattle.tl_model.specs.declared.reply.Reply.{Reply}
+use Rattle.tl_model.specs.declared.reply.Reply.TheVariants.{Made}
+use Rattle.tl_model.specs.declared.event.Act.{Act}
+use Rattle.tl_model.specs.declared.event.Act.TheVariants.{Call}
+use Rattle.tl_model.specs.declared.record.Record.{Record}
+use Rattle.tl_model.specs.declared.record.Record.TheVariants as kind
+use Rattle.tl_model.specs.declared.event.Event.{Event}
+use Rattle.tl_model.specs.Past.{Past, Plain, act_with, event_with, without_tickets}
+use Rattle.tl_model.specs.Rules.{all_permitted, lawful_judge}
+use Rattle.tl_model.specs.History.{files_at, has_output, id_of, inputs_of, is_named, names, output_count, outputs_of, record_made, records}
+use Rattle.tl_model.specs.Actors.{actors}
+use Rattle.tl_model.specs.Residency.{is_collected, is_saved, saved_as}
+use Rattle.tl_laws.specs.Numbers.{Numbered, get-within}
+use Rattle.tl_laws.specs.Made.{IsOutputOf}
+use Rattle.tl_needs.specs.Next.{event-next}
+use Rattle.tl_needs.specs.Sound.{past-numbered, permitted-before}
+use Rattle.tl_steps.specs.Steps.{added, new_seat, next_of, seat_after}
+use Rattle.tl_steps.specs.Within.{IsWithin}
+use Rattle.tl_steps.proofs.Files.{after, each-file, is-output, new-number, not-true, not-yet, saved-same}
+use Rattle.tl_steps.proofs.Lists.{map_after, map_append, map_same}
+use Rattle.tl_steps.proofs.Seats.{seats-after}
+use Rattle.tl_steps.proofs.Within.{all-within}
+use Rattle.tl_gc.specs.declared.kept.Kept.{Kept}
+use Rattle.tl_gc.specs.Data.{GcData, gc_after, is_gone, kept_after, new_output, output_after, with_kept}
+use Rattle.tl_gc.specs.Standing.{HasRoomForAll, StandsFor, UnnamesOnly, kept_in, kept_of, output_of}
+use Rattle.tl_gc.proofs.Collected.{collected-within}
+use Rattle.tl_gc.proofs.Named.{just-named, outputs-named}
+
+-- ---- names
+
+named-by : (was now : Bool) → (now ≡ true → was ≡ true) → (was && not (was && not now)) ≡ now
+named-by true true h = refl
+named-by true false h = refl
+named-by false true h = let never : false ≡ true = h refl in absurd (cc)
+named-by false false h = refl
+
+-- a file of an older record gets no name
+abbrev NoNewNames : Past → Past → Type 0
+NoNewNames past now = (f : FileId) → f.rec.0 < length (records past) → is_named now f ≡ true → is_named past f ≡ true
+
+within-records : (rs : List Record) (f : FileId) (o : Option Record) → slice_get rs f.rec.0 ≡ o → has_output o f.out ≡ true → f.rec.0 < length rs
+within-records rs f None at is = absurd (cc)
+within-records rs f (Some r) at is = get-within rs f.rec.0 r at
+
+named-same : (past : Past) (e : Plain) (lost : Option FileId) (f : FileId) → UnnamesOnly past e lost → NoNewNames past (e ∷ past) → IsOutputOf (records past) f →
+    (is_named past f && not (is_gone lost f)) ≡ is_named (e ∷ past) f
+named-same past e lost f only older is =
+    ap (λ b. is_named past f && not b) (only f)
+    ∙ named-by (is_named past f) (is_named (e ∷ past) f) (older f (within-records (records past) f (slice_get (records past) f.rec.0) refl is))
+
+-- ---- the records that were there
+
+output-same : (actor : Actor) (act : Act (Unit {0})) (past : Past) (gone : Option FileId) (f : FileId) → IsOutputOf (records past) f →
+    UnnamesOnly past (record { actor = actor; act = act }) gone → NoNewNames past (after actor act past) →
+    output_after act gone (output_of past f) ≡ output_of (after actor act past) f
+output-same actor act past gone f is only older =
+    λ i. record { file = f; is_saved = saved-same act f (saved_as past f) i; is_named = named-same past (record { actor = actor; act = act }) gone f only older is i }
+
+kept-same : (actor : Actor) (act : Act (Unit {0})) (past : Past) (gone : Option FileId) (at : ℕ) (r : Record) → Numbered (records past) → slice_get (records past) at ≡ Some r →
+    UnnamesOnly past (record { actor = actor; act = act }) gone → NoNewNames past (after actor act past) →
+    kept_after act gone (kept_in past r) ≡ kept_in (after actor act past) r
+kept-same actor act past gone at r numbered got only older =
+    let now = after actor act past in
+    let outputs = map_after (output_of past) (output_after act gone) (outputs_of r)
+    ∙ each-file (λ f. output_after act gone (output_of past f)) (output_of now) (id_of r) 0 (output_count r) (output_count r) (omega arith)
+    (λ j less. output-same actor act past gone (record { rec = id_of r; out = j }) (is-output (records past) r at j numbered got less) only older) in
+    λ i. record { made = id_of r; inputs = inputs_of r; outputs = outputs i; is_collected = is_collected now (id_of r) }
+
+changed-same : (actor : Actor) (act : Act (Unit {0})) (past : Past) (gone : Option FileId) → Numbered (records past) →
+    UnnamesOnly past (record { actor = actor; act = act }) gone → NoNewNames past (after actor act past) →
+    map (kept_after act gone) (map (kept_in past) (records past)) ≡ map (kept_in (after actor act past)) (records past)
+changed-same actor act past gone numbered only older =
+    map_after (kept_in past) (kept_after act gone) (records past)
+    ∙ map_same (λ r. kept_after act gone (kept_in past r)) (kept_in (after actor act past)) (records past)
+    (λ at r got. kept-same actor act past gone at r numbered got only older)
+
+-- ---- a record that a call adds
+
+-- all that was let go was accepted
+abbrev CollectsAccepted : Past → Type 0
+CollectsAccepted past = (made : RecordId) → is_collected past made ≡ true → made.0 < length (records past)
+
+record-new : (actor : Actor) (c : Command (Unit {0})) (reply : Reply) (past : Past) (r : Record) → IsWithin past → CollectsAccepted past →
+    records (after actor (Call c reply) past) ≡ records past ++ r ∷ [] → Numbered (records (after actor (Call c reply) past)) →
+    ((j : ℕ) → j < output_count r → is_named (after actor (Call c reply) past) (record { rec = id_of r; out = j }) ≡ true) →
+    kept_of r ≡ kept_in (after actor (Call c reply) past) r
+record-new actor c reply past r within accepted is numbered named =
+    let now = after actor (Call c reply) past in
+    let number : (id_of r).0 ≡ length (records past) = new-number past now r is numbered in
+    let uncollected : is_collected past (id_of r) ≡ false =
+    not-true (is_collected past (id_of r)) (λ e. let less : (id_of r).0 < length (records past) = accepted (id_of r) e in absurd (omega arith)) in
+    let outputs = each-file new_output (output_of now) (id_of r) 0 (output_count r) (output_count r) (omega arith)
+    (λ j less i. record {
+      file = record { rec = id_of r; out = j };
+      is_saved = sym (not-true (is_saved past (record { rec = id_of r; out = j })) (λ e. not-yet past (id_of r) j number (within.saved (record { rec = id_of r; out = j }) e))) i;
+      is_named = sym (named j less) i;
+    }) in
+    λ i. record { made = id_of r; inputs = inputs_of r; outputs = outputs i; is_collected = sym uncollected i }
+
+-- there is a place for each record that is added
+abbrev RoomFor : Option Kept → List Record → Type 0
+RoomFor next [] = Unit {0}
+RoomFor next (r ∷ rs) = next ≡ Some (kept_of r)
+
+-- the records, once those are added that an event adds
+abbrev AddedTo : Past → Option Kept → List Kept → Type 0
+AddedTo now next kept = with_kept next kept ≡ map (kept_in now) (records now)
+
+none-added : (now : Past) (rs : List Record) (kept : List Kept) → records now ≡ rs → kept ≡ map (kept_in now) rs → AddedTo now None kept
+none-added now rs kept is same = same ∙ ap (map (kept_in now)) (sym is)
+
+one-added : (now : Past) (rs : List Record) (r : Record) (next : Option Kept) (kept : List Kept) → records now ≡ rs ++ r ∷ [] → kept ≡ map (kept_in now) rs →
+    next ≡ Some (kept_of r) → kept_of r ≡ kept_in now r → AddedTo now next kept
+one-added now rs r next kept is same room new =
+    ap (λ o. with_kept o kept) room
+    ∙ (λ i. same i ++ new i ∷ [])
+    ∙ sym (map_append (kept_in now) rs (r ∷ []))
+    ∙ ap (map (kept_in now)) (sym is)
+
+call-added : (actor : Actor) (reply : Reply) (c : Command (Unit {0})) (past : Past) (next : Option Kept) (kept : List Kept) → IsWithin past → CollectsAccepted past →
+    Numbered (records (after actor (Call c reply) past)) → RoomFor next (record_made reply c (names past)) →
+    kept ≡ map (kept_in (after actor (Call c reply) past)) (records past) → AddedTo (after actor (Call c reply) past) (next_of (Call c reply) next) kept
+call-added actor (Made made) (command.Put path len digest ticket) past next kept within accepted numbered room same =
+    let c = command.Put path len digest ticket in
+    let r = kind.Put made in
+    one-added (after actor (Call c (Made made)) past) (records past) r next kept refl same room
+    (record-new actor c (Made made) past r within accepted refl numbered (λ j less. just-named path (names past) made 0 j (omega arith)))
+call-added actor (Made made) (command.Job core prio read outputs) past next kept within accepted numbered room same =
+    let c = command.Job core prio read outputs in
+    let r = kind.Job made core prio (files_at (names past) read) (length outputs) in
+    one-added (after actor (Call c (Made made)) past) (records past) r next kept refl same room
+    (record-new actor c (Made made) past r within accepted refl numbered
+    (λ j less. outputs-named (names past) made 0 outputs j (omega arith) (let few : j < length outputs = less in omega arith)))
+call-added actor reply c past next kept within accepted numbered room same =
+    none-added (after actor (Call c reply) past) (records past) kept (append-nil (records past)) same
+
+act-added : (actor : Actor) (act : Act (Unit {0})) (past : Past) (next : Option Kept) (kept : List Kept) → IsWithin past → CollectsAccepted past →
+    Numbered (records (after actor act past)) → RoomFor next (added past act) → kept ≡ map (kept_in (after actor act past)) (records past) →
+    AddedTo (after actor act past) (next_of act next) kept
+act-added actor (Call c reply) past next kept within accepted numbered room same = call-added actor reply c past next kept within accepted numbered room same
+act-added actor act past next kept within accepted numbered room same = none-added (after actor act past) (records past) kept refl same
+
+-- ---- one event
+
+room-for : (gc : GcData) (rs : List Record) → HasRoomForAll gc rs → RoomFor gc.next rs
+room-for gc [] room = tt
+room-for gc (r ∷ rs) room = room
+
+stands-after : (actor : Actor) (act : Act (Unit {0})) (past : Past) (gone : Option FileId) (gc : GcData) → StandsFor gc past → HasRoomForAll gc (added past act) →
+    UnnamesOnly past (record { actor = actor; act = act }) gone → NoNewNames past (after actor act past) → IsWithin past → CollectsAccepted past →
+    Numbered (records (after actor act past)) → StandsFor (gc_after (record { actor = actor; act = act }) gone gc) (after actor act past)
+stands-after actor act past gone gc stands room only older within accepted numbered =
+    let changed = ap (map (kept_after act gone)) stands.kept ∙ changed-same actor act past gone stands.numbered only older in
+    record {
+      kept = act-added actor act past gc.next (map (kept_after act gone) gc.kept) within accepted numbered (room-for gc (added past act) room) changed;
+      seats = ap (map (seat_after (record { actor = actor; act = act }))) stands.seats ∙ seats-after (record { actor = actor; act = act }) past;
+      numbered = numbered;
+    }
+
+-- nothing is kept of the empty past
+pub stands-empty : StandsFor (record { kept = []; seats = map new_seat actors; next = None }) []
+stands-empty = record { kept = refl; seats = refl; numbered = λ i r got. absurd (cc) }
+
+-- whether there is a place for a record does not matter
+pub stands-same : (old new : GcData) (past : Past) → new.kept ≡ old.kept → new.seats ≡ old.seats → StandsFor old past → StandsFor new past
+stands-same old new past kept seats stands = record { kept = kept ∙ stands.kept; seats = seats ∙ stands.seats; numbered = stands.numbered }
+
+-- what stood for a past stands, after an event that the rules permit, for the past with the event
+pub noted : {T : Type 0} (header : Header) (event : Event T) (past : List (Event T)) (gone : Option FileId) (gc : GcData) → StandsFor gc (without_tickets past) →
+    HasRoomForAll gc (added (without_tickets past) (act_with (λ _. tt) event.act)) → UnnamesOnly (without_tickets past) (event_with (λ _. tt) event) gone →
+    all_permitted lawful_judge header (event ∷ past) ≡ true → StandsFor (gc_after (event_with (λ _. tt) event) gone gc) (without_tickets (event ∷ past))
+noted header event past gone gc stands room only permitted =
+    let before = permitted-before lawful_judge header event past permitted in
+    stands-after event.actor (act_with (λ _. tt) event.act) (without_tickets past) gone gc stands room only
+    (event-next lawful_judge header event past permitted).named (all-within lawful_judge header past before)
+    (collected-within lawful_judge header past before) (past-numbered lawful_judge header (event ∷ past) permitted)
