@@ -1,6 +1,7 @@
 -- Lists of which single elements are set.
-use Rattle.std.proofs.Common.{◌≡◌, ◌∙◌, ◌⊎◌, inl, inr, arith, ℕ, zero, suc, ◌+◌, ◌<◌, Bool, true, false, ◌&&◌, ◌||◌, List, [], ◌∷◌, drop, length, map, slice_get, slice_set, Some, refl, sym, ap}
+use Rattle.std.proofs.Common.{◌≡◌, ◌∙◌, ◌⊎◌, inl, inr, arith, ℕ, zero, suc, ◌+◌, ◌<◌, Bool, true, false, ◌&&◌, ◌||◌, List, [], ◌∷◌, drop, length, map, slice_get, slice_index_or, slice_set, ◌≤◌, Some, refl, sym, ap}
 use Rattle.std.specs.List.{list_any}
+use Rattle.tl_gc.specs.Data.{changed_at}
 
 pub get-set : {A : Type 0} (xs : List A) (k : ℕ) (x : A) → k < length xs → slice_get (slice_set xs k x) k ≡ Some x
 get-set [] k x less = absurd (omega arith)
@@ -20,6 +21,34 @@ length-set [] zero x = refl
 length-set [] (suc k) x = refl
 length-set (y ∷ xs) zero x = refl
 length-set (y ∷ xs) (suc k) x = ap suc (length-set xs k x)
+
+pub set-changed : {A : Type 0} (xs : List A) (n : ℕ) (d : A) (change : A → A) → slice_set xs n (change (slice_index_or xs n d)) ≡ changed_at n change xs
+set-changed [] zero d change = refl
+set-changed [] (suc n) d change = refl
+set-changed (x ∷ xs) zero d change = refl
+set-changed (x ∷ xs) (suc n) d change = ap (λ ys. x ∷ ys) (set-changed xs n d change)
+
+pub unchanged-past : {A : Type 0} (xs : List A) (n : ℕ) (change : A → A) → length xs ≤ n → xs ≡ changed_at n change xs
+unchanged-past [] n change out = refl
+unchanged-past (x ∷ xs) zero change out = absurd (omega arith)
+unchanged-past (x ∷ xs) (suc n) change out = ap (λ ys. x ∷ ys) (unchanged-past xs n change (omega arith))
+
+pub length-changed : {A : Type 0} (xs : List A) (n : ℕ) (change : A → A) → length (changed_at n change xs) ≡ length xs
+length-changed [] n change = refl
+length-changed (x ∷ xs) zero change = refl
+length-changed (x ∷ xs) (suc n) change = ap suc (length-changed xs n change)
+
+pub get-changed : {A : Type 0} (xs : List A) (n : ℕ) (change : A → A) (x : A) → slice_get xs n ≡ Some x → slice_get (changed_at n change xs) n ≡ Some (change x)
+get-changed [] n change x at = absurd (cc)
+get-changed (y ∷ xs) zero change x at = let same : y ≡ x = cc in ap (λ z. Some (change z)) same
+get-changed (y ∷ xs) (suc n) change x at = get-changed xs n change x at
+
+pub get-changed-other : {A : Type 0} (xs : List A) (n i : ℕ) (change : A → A) → (n ≡ i → ⊥) → slice_get (changed_at n change xs) i ≡ slice_get xs i
+get-changed-other [] n i change other = refl
+get-changed-other (y ∷ xs) zero zero change other = absurd (other refl)
+get-changed-other (y ∷ xs) zero (suc i) change other = refl
+get-changed-other (y ∷ xs) (suc n) zero change other = refl
+get-changed-other (y ∷ xs) (suc n) (suc i) change other = get-changed-other xs n i change (λ e. other (ap suc e))
 
 -- a list that has at each place what a function makes of another's element there
 pub map-at-each : {A B : Type 0} (f : A → B) (ys : List B) (xs : List A) → length ys ≡ length xs → ((i : ℕ) (x : A) → slice_get xs i ≡ Some x → slice_get ys i ≡ Some (f x)) → ys ≡ map f xs

@@ -1,5 +1,6 @@
 -- What is kept stands for the past with one event more.
-use Rattle.std.proofs.Common.{◌≡◌, ◌∙◌, arith, ℕ, ◌<◌, Bool, true, false, ◌&&◌, not, List, [], ◌∷◌, ◌++◌, length, map, slice_get, Option, Some, None, refl, sym, ap, append-nil}
+use Rattle.std.proofs.Common.{◌≡◌, ◌∙◌, arith, inl, inr, subst, ℕ, ◌<◌, Bool, true, false, ◌&&◌, ◌||◌, not, List, [], ◌∷◌, ◌++◌, length, map, slice_get, Option, Some, None, refl, sym, ap, append-nil}
+use Rattle.tl_types.specs.Same.{file_same, file_same-Decides, record_same, record_same-Decides}
 use Rattle.tl_types.specs.declared.actor.Actor.{Actor}
 use Rattle.tl_types.specs.declared.file_id.FileId.{FileId}
 use Rattle.tl_types.specs.declared.record_id.RecordId.{RecordId}
@@ -9,7 +10,7 @@ use Rattle.tl_model.specs.declared.command.Command.TheVariants as command
 use Rattle.tl_model.specs.declared.reply.Reply.{Reply}
 use Rattle.tl_model.specs.declared.reply.Reply.TheVariants.{Made}
 use Rattle.tl_model.specs.declared.event.Act.{Act}
-use Rattle.tl_model.specs.declared.event.Act.TheVariants.{Call}
+use Rattle.tl_model.specs.declared.event.Act.TheVariants.{Call, Collect, Saved}
 use Rattle.tl_model.specs.declared.record.Record.{Record}
 use Rattle.tl_model.specs.declared.record.Record.TheVariants as kind
 use Rattle.tl_model.specs.declared.event.Event.{Event}
@@ -17,21 +18,22 @@ use Rattle.tl_model.specs.Past.{Past, Plain, act_with, event_with, without_ticke
 use Rattle.tl_model.specs.Rules.{all_permitted, lawful_judge}
 use Rattle.tl_model.specs.History.{files_at, has_output, id_of, inputs_of, is_named, names, output_count, outputs_of, record_made, records}
 use Rattle.tl_model.specs.Actors.{actors}
-use Rattle.tl_model.specs.Residency.{is_collected, is_saved, saved_as}
+use Rattle.tl_model.specs.Residency.{collects, is_collected, is_saved, saved_as}
 use Rattle.tl_laws.specs.Numbers.{Numbered, get-within}
 use Rattle.tl_laws.specs.Made.{IsOutputOf}
 use Rattle.tl_needs.specs.Next.{event-next}
 use Rattle.tl_needs.specs.Sound.{past-numbered, permitted-before}
-use Rattle.tl_steps.specs.Steps.{added, new_seat, next_of, seat_after}
+use Rattle.tl_steps.specs.Steps.{added, new_seat, next_of, saves_now, seat_after}
 use Rattle.tl_steps.specs.Within.{IsWithin}
 use Rattle.tl_steps.proofs.Files.{after, each-file, is-output, new-number, not-true, not-yet, saved-same}
-use Rattle.tl_steps.proofs.Lists.{map_after, map_append, map_same}
+use Rattle.tl_steps.proofs.Lists.{get_map, map_after, map_append, map_same}
 use Rattle.tl_steps.proofs.Seats.{seats-after}
 use Rattle.tl_steps.proofs.Within.{all-within}
 use Rattle.tl_gc.specs.declared.kept.Kept.{Kept}
-use Rattle.tl_gc.specs.Data.{GcData, gc_after, is_gone, kept_after, new_output, output_after, with_kept}
+use Rattle.tl_gc.specs.Data.{GcData, changed_at, gc_after, is_gone, kept_after, maker_of, new_output, noted_at, output_after, records_after, touched, with_kept}
 use Rattle.tl_gc.specs.Standing.{HasRoomForAll, StandsFor, UnnamesOnly, kept_in, kept_of, output_of}
 use Rattle.tl_gc.proofs.Collected.{collected-within}
+use Rattle.tl_gc.proofs.Lists.{get-changed, get-changed-other, length-changed, length-map, map-at-each, same_or_not}
 use Rattle.tl_gc.proofs.Named.{just-named, outputs-named}
 
 -- ---- names
@@ -74,11 +76,87 @@ kept-same actor act past gone at r numbered got only older =
     (λ j less. output-same actor act past gone (record { rec = id_of r; out = j }) (is-output (records past) r at j numbered got less) only older) in
     λ i. record { made = id_of r; inputs = inputs_of r; outputs = outputs i; is_collected = is_collected now (id_of r) }
 
+-- ---- the records that an act leaves as they were
+
+-- it is not this record, by number, that is changed
+abbrev Misses : Option RecordId → ℕ → Type 0
+Misses None i = Unit {0}
+Misses (Some made) i = made.0 ≡ i → ⊥
+
+and-not : (b : Bool) → (b && not b) ≡ false
+and-not true = refl
+and-not false = refl
+
+other-file : (f g : FileId) (i : ℕ) → f.rec.0 ≡ i → (g.rec.0 ≡ i → ⊥) → file_same f g ≡ false
+other-file f g i at other = not-true (file_same f g) (λ t. other (sym (ap (λ (h : FileId). h.rec.0) ((file_same-Decides f g).0 t)) ∙ at))
+
+not-gone : (gone : Option FileId) (f : FileId) (i : ℕ) → Misses (maker_of gone) i → f.rec.0 ≡ i → is_gone gone f ≡ false
+not-gone None f i other at = refl
+not-gone (Some g) f i other at = other-file f g i at other
+
+keeps-name : (actor : Actor) (act : Act (Unit {0})) (past : Past) (gone : Option FileId) (i : ℕ) (f : FileId) → UnnamesOnly past (record { actor = actor; act = act }) gone →
+    Misses (touched act gone) i → f.rec.0 ≡ i → is_gone gone f ≡ false
+keeps-name actor (Saved g size digest) past gone i f only other at = only f ∙ and-not (is_named past f)
+keeps-name actor (Collect made) past gone i f only other at = only f ∙ and-not (is_named past f)
+keeps-name actor act past gone i f only other at = not-gone gone f i other at
+
+saves-other : (act : Act (Unit {0})) (gone : Option FileId) (i : ℕ) (f : FileId) → Misses (touched act gone) i → f.rec.0 ≡ i → saves_now act f ≡ false
+saves-other (Saved g size digest) gone i f other at = other-file f g i at other
+saves-other act gone i f other at = refl
+
+collects-other : (act : Act (Unit {0})) (gone : Option FileId) (i : ℕ) (id : RecordId) → Misses (touched act gone) i → id.0 ≡ i → collects id act ≡ false
+collects-other (Collect made) gone i id other at =
+    not-true (record_same id made) (λ t. other (sym (ap (λ (m : RecordId). m.0) ((record_same-Decides id made).0 t)) ∙ at))
+collects-other act gone i id other at = refl
+
+and-true : (b : Bool) → b ≡ (b && true)
+and-true true = refl
+and-true false = refl
+
+spared : (actor : Actor) (act : Act (Unit {0})) (past : Past) (gone : Option FileId) (i : ℕ) (r : Record) → UnnamesOnly past (record { actor = actor; act = act }) gone →
+    Misses (touched act gone) i → (id_of r).0 ≡ i → kept_in past r ≡ kept_after act gone (kept_in past r)
+spared actor act past gone i r only other at =
+    let outputs = each-file (output_of past) (λ f. output_after act gone (output_of past f)) (id_of r) 0 (output_count r) (output_count r) (omega arith)
+    (λ j less k. record {
+      file = record { rec = id_of r; out = j };
+      is_saved = sym (saves-other act gone i (record { rec = id_of r; out = j }) other at) k || is_saved past (record { rec = id_of r; out = j });
+      is_named = (and-true (is_named past (record { rec = id_of r; out = j }))
+          ∙ ap (λ b. is_named past (record { rec = id_of r; out = j }) && not b) (sym (keeps-name actor act past gone i (record { rec = id_of r; out = j }) only other at))) k;
+    })
+    ∙ sym (map_after (output_of past) (output_after act gone) (outputs_of r)) in
+    λ k. record {
+      made = id_of r;
+      inputs = inputs_of r;
+      outputs = outputs k;
+      is_collected = sym (collects-other act gone i (id_of r) other at) k || is_collected past (id_of r);
+    }
+
+noted-same : (actor : Actor) (act : Act (Unit {0})) (past : Past) (gone : Option FileId) (o : Option RecordId) → touched act gone ≡ o → Numbered (records past) →
+    UnnamesOnly past (record { actor = actor; act = act }) gone →
+    noted_at o act gone (map (kept_in past) (records past)) ≡ map (λ r. kept_after act gone (kept_in past r)) (records past)
+noted-same actor act past gone None is numbered only =
+    map_same (kept_in past) (λ r. kept_after act gone (kept_in past r)) (records past)
+    (λ i r got. spared actor act past gone i r only (subst (λ (o : Option RecordId). Misses o i) (sym is) tt) (ap (λ (id : RecordId). id.0) (numbered i r got)))
+noted-same actor act past gone (Some made) is numbered only =
+    let kept = map (kept_in past) (records past) in
+    map-at-each (λ r. kept_after act gone (kept_in past r)) (changed_at made.0 (kept_after act gone) kept) (records past)
+    (length-changed kept made.0 (kept_after act gone) ∙ length-map (kept_in past) (records past))
+    (λ i r got. elim (same_or_not made.0 i) [
+      | inl same ↦
+          ap (slice_get (changed_at made.0 (kept_after act gone) kept)) (sym same)
+          ∙ get-changed kept made.0 (kept_after act gone) (kept_in past r) (ap (slice_get kept) same ∙ get_map (kept_in past) (records past) i r got)
+      | inr other ↦
+          get-changed-other kept made.0 i (kept_after act gone) other
+          ∙ get_map (kept_in past) (records past) i r got
+          ∙ ap (λ (k : Kept). Some k)
+          (spared actor act past gone i r only (subst (λ (o : Option RecordId). Misses o i) (sym is) other) (ap (λ (id : RecordId). id.0) (numbered i r got)))
+    ])
+
 changed-same : (actor : Actor) (act : Act (Unit {0})) (past : Past) (gone : Option FileId) → Numbered (records past) →
     UnnamesOnly past (record { actor = actor; act = act }) gone → NoNewNames past (after actor act past) →
-    map (kept_after act gone) (map (kept_in past) (records past)) ≡ map (kept_in (after actor act past)) (records past)
+    records_after act gone (map (kept_in past) (records past)) ≡ map (kept_in (after actor act past)) (records past)
 changed-same actor act past gone numbered only older =
-    map_after (kept_in past) (kept_after act gone) (records past)
+    noted-same actor act past gone (touched act gone) refl numbered only
     ∙ map_same (λ r. kept_after act gone (kept_in past r)) (kept_in (after actor act past)) (records past)
     (λ at r got. kept-same actor act past gone at r numbered got only older)
 
@@ -158,9 +236,9 @@ stands-after : (actor : Actor) (act : Act (Unit {0})) (past : Past) (gone : Opti
     UnnamesOnly past (record { actor = actor; act = act }) gone → NoNewNames past (after actor act past) → IsWithin past → CollectsAccepted past →
     Numbered (records (after actor act past)) → StandsFor (gc_after (record { actor = actor; act = act }) gone gc) (after actor act past)
 stands-after actor act past gone gc stands room only older within accepted numbered =
-    let changed = ap (map (kept_after act gone)) stands.kept ∙ changed-same actor act past gone stands.numbered only older in
+    let changed = ap (records_after act gone) stands.kept ∙ changed-same actor act past gone stands.numbered only older in
     record {
-      kept = act-added actor act past gc.next (map (kept_after act gone) gc.kept) within accepted numbered (room-for gc (added past act) room) changed;
+      kept = act-added actor act past gc.next (records_after act gone gc.kept) within accepted numbered (room-for gc (added past act) room) changed;
       seats = ap (map (seat_after (record { actor = actor; act = act }))) stands.seats ∙ seats-after (record { actor = actor; act = act }) past;
       numbered = numbered;
     }

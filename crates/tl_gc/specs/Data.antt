@@ -5,6 +5,7 @@ use Rattle.tl_types.specs.Same.{file_same}
 use Rattle.tl_types.specs.declared.file_id.FileId.{FileId}
 use Rattle.tl_types.specs.declared.record_id.RecordId.{RecordId}
 use Rattle.tl_model.specs.declared.event.Act.{Act}
+use Rattle.tl_model.specs.declared.event.Act.TheVariants.{Saved, Collect}
 use Rattle.tl_model.specs.Past.{Plain}
 use Rattle.tl_model.specs.Residency.{collects}
 use Rattle.tl_steps.specs.declared.seat.Seat.{Seat}
@@ -51,6 +52,29 @@ kept_after act gone before = record {
   is_collected = collects before.made act || before.is_collected;
 }
 
+abbrev pub changed_at : {A : Type 0} → ℕ → (A → A) → List A → List A
+changed_at n change [] = []
+changed_at zero change (x ∷ xs) = change x ∷ xs
+changed_at (suc n) change (x ∷ xs) = x ∷ changed_at n change xs
+
+abbrev pub maker_of : Option FileId → Option RecordId
+maker_of None = None
+maker_of (Some f) = Some f.rec
+
+-- the record that an act changes that leaves this file without a name
+abbrev pub touched : Act (Unit {0}) → Option FileId → Option RecordId
+touched (Saved f size digest) gone = Some f.rec
+touched (Collect made) gone = Some made
+touched _ gone = maker_of gone
+
+abbrev pub noted_at : Option RecordId → Act (Unit {0}) → Option FileId → List Kept → List Kept
+noted_at None act gone kept = kept
+noted_at (Some made) act gone kept = changed_at made.0 (kept_after act gone) kept
+
+-- the records after an act that leaves this file without a name
+abbrev pub records_after : Act (Unit {0}) → Option FileId → List Kept → List Kept
+records_after act gone kept = noted_at (touched act gone) act gone kept
+
 abbrev pub with_kept : Option Kept → List Kept → List Kept
 with_kept None kept = kept
 with_kept (Some rec) kept = kept ++ rec ∷ []
@@ -58,7 +82,7 @@ with_kept (Some rec) kept = kept ++ rec ∷ []
 -- what is kept after an event that leaves this file without a name
 abbrev pub gc_after : Plain → Option FileId → GcData → GcData
 gc_after e gone gc = record {
-  kept = with_kept (next_of e.act gc.next) (map (kept_after e.act gone) gc.kept);
+  kept = with_kept (next_of e.act gc.next) (records_after e.act gone gc.kept);
   seats = map (seat_after e) gc.seats;
   next = left_room e.act gc.next;
 }

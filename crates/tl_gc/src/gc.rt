@@ -7,7 +7,7 @@ ghost use Rattle.tl_model.specs.Plan.{is_task};
 ghost use Rattle.tl_model.specs.Rules.{all_permitted, lawful_judge};
 ghost use Rattle.tl_steps.specs.Steps.{added, left_room};
 ghost use Rattle.tl_gc.specs.declared.kept.Kept.{Kept as KeptOf};
-ghost use Rattle.tl_gc.specs.Data.{found_garbage, gc_after, kept_after, with_kept};
+ghost use Rattle.tl_gc.specs.Data.{found_garbage, gc_after, records_after, with_kept};
 ghost use Rattle.tl_gc.specs.Standing.{HasRoom, HasRoomForAll, StandsFor, UnnamesOnly};
 
 use crate::kept::{Kept, kept_of, note_records};
@@ -157,7 +157,7 @@ fn note_all<T>(
 
 // The records after an act.
 fn change_records<T>(kept: &mut Vec<Kept>, act: &Act<T>, gone: Option<FileId>)
-    ensures kept { kept.new.items ≡ map (kept_after (act_with (λ _. tt) act.now) gone) kept.old.items }
+    ensures kept { kept.new.items ≡ records_after (act_with (λ _. tt) act.now) gone kept.old.items }
     ensures len { vec_len kept.new ≡ vec_len kept.old }
     ensures capacity { vec_capacity kept.new ≡ vec_capacity kept.old }
 {

@@ -1,9 +1,9 @@
 //! What is kept of an accepted record.
 
-ghost use Rattle.std.specs.Prelude.{◌≡◌, IfOk, map};
+ghost use Rattle.std.specs.Prelude.{◌≡◌, IfOk};
 ghost use Rattle.tl_model.specs.Past.{act_with};
 ghost use Rattle.tl_model.specs.Residency.{collects};
-ghost use Rattle.tl_gc.specs.Data.{kept_after};
+ghost use Rattle.tl_gc.specs.Data.{changed_at, kept_after, maker_of, records_after, touched};
 ghost use Rattle.tl_gc.specs.Standing.{kept_of};
 
 use crate::outputs::Outputs;
@@ -46,12 +46,44 @@ pub(crate) fn kept_of(alloc: Global, rec: &Record) -> Result<Kept, NoMemory>
     }
 }
 
-/// The records after an act that leaves the file `gone` without a name.
+/// The records after an act that leaves the file `gone` without a name. It changes one at most.
 pub(crate) fn note_records<T>(kept: &mut [Kept], act: &Act<T>, gone: Option<FileId>)
-    ensures { kept.new ≡ map (kept_after (act_with (λ _. tt) act.now) gone) kept.old }
+    ensures { kept.new ≡ records_after (act_with (λ _. tt) act.now) gone kept.old }
 {
-    for rec in kept.iter_mut() {
-        note_record(rec, act, gone);
+    if let Some(made) = touched(act, gone) {
+        note_at(kept, made, act, gone);
+    }
+}
+
+// The record that the act changes, if it changes one.
+fn touched<T>(act: &Act<T>, gone: Option<FileId>) -> Option<RecordId>
+    ensures { result ≡ touched (act_with (λ _. tt) act.now) gone }
+{
+    match act {
+        Act::Saved(file, _, _) => Some(file.rec),
+        Act::Collect(made) => Some(*made),
+        _ => maker_of(gone),
+    }
+}
+
+// The record of the file, if there is one.
+fn maker_of(file: Option<FileId>) -> Option<RecordId>
+    ensures { result ≡ maker_of file }
+{
+    match file {
+        Some(file) => Some(file.rec),
+        None => None,
+    }
+}
+
+// The records where an act that leaves the file `gone` without a name changes this one, if there is such a
+// one.
+fn note_at<T>(kept: &mut [Kept], made: RecordId, act: &Act<T>, gone: Option<FileId>)
+    ensures { kept.new ≡ changed_at made.0 (kept_after (act_with (λ _. tt) act.now) gone) kept.old }
+{
+    let at = made.0 as usize;
+    if at < kept.len() {
+        note_record(&mut kept[at], act, gone);
     }
 }
 
