@@ -94,20 +94,20 @@ not-gone : (gone : Option FileId) (f : FileId) (i : ℕ) → Misses (maker_of go
 not-gone None f i other at = refl
 not-gone (Some g) f i other at = other-file f g i at other
 
-keeps-name : (actor : Actor) (act : Act (Unit {0})) (past : Past) (gone : Option FileId) (i : ℕ) (f : FileId) → UnnamesOnly past (record { actor = actor; act = act }) gone →
-    Misses (touched act gone) i → f.rec.0 ≡ i → is_gone gone f ≡ false
-keeps-name actor (Saved g size digest) past gone i f only other at = only f ∙ and-not (is_named past f)
-keeps-name actor (Collect made) past gone i f only other at = only f ∙ and-not (is_named past f)
-keeps-name actor act past gone i f only other at = not-gone gone f i other at
+keeps-name : (actor : Actor) (act : Act (Unit {0})) (past : Past) (lost : Option FileId) (i : ℕ) (f : FileId) → UnnamesOnly past (record { actor = actor; act = act }) lost →
+    Misses (touched act lost) i → f.rec.0 ≡ i → is_gone lost f ≡ false
+keeps-name actor (Saved g size digest) past lost i f only other at = only f ∙ and-not (is_named past f)
+keeps-name actor (Collect made) past lost i f only other at = only f ∙ and-not (is_named past f)
+keeps-name actor act past lost i f only other at = not-gone lost f i other at
 
-saves-other : (act : Act (Unit {0})) (gone : Option FileId) (i : ℕ) (f : FileId) → Misses (touched act gone) i → f.rec.0 ≡ i → saves_now act f ≡ false
-saves-other (Saved g size digest) gone i f other at = other-file f g i at other
-saves-other act gone i f other at = refl
+saves-other : (act : Act (Unit {0})) (lost : Option FileId) (i : ℕ) (f : FileId) → Misses (touched act lost) i → f.rec.0 ≡ i → saves_now act f ≡ false
+saves-other (Saved g size digest) lost i f other at = other-file f g i at other
+saves-other act lost i f other at = refl
 
-collects-other : (act : Act (Unit {0})) (gone : Option FileId) (i : ℕ) (id : RecordId) → Misses (touched act gone) i → id.0 ≡ i → collects id act ≡ false
-collects-other (Collect made) gone i id other at =
+collects-other : (act : Act (Unit {0})) (lost : Option FileId) (i : ℕ) (id : RecordId) → Misses (touched act lost) i → id.0 ≡ i → collects id act ≡ false
+collects-other (Collect made) lost i id other at =
     not-true (record_same id made) (λ t. other (sym (ap (λ (m : RecordId). m.0) ((record_same-Decides id made).0 t)) ∙ at))
-collects-other act gone i id other at = refl
+collects-other act lost i id other at = refl
 
 and-true : (b : Bool) → b ≡ (b && true)
 and-true true = refl

@@ -63,13 +63,13 @@ maker_of (Some f) = Some f.rec
 
 -- the record that an act changes that leaves this file without a name
 abbrev pub touched : Act (Unit {0}) → Option FileId → Option RecordId
-touched (Saved f size digest) gone = Some f.rec
-touched (Collect made) gone = Some made
-touched _ gone = maker_of gone
+touched (Saved f size digest) lost = Some f.rec
+touched (Collect made) lost = Some made
+touched _ lost = maker_of lost
 
 abbrev pub noted_at : Option RecordId → Act (Unit {0}) → Option FileId → List Kept → List Kept
-noted_at None act gone kept = kept
-noted_at (Some made) act gone kept = changed_at made.0 (kept_after act gone) kept
+noted_at None act lost kept = kept
+noted_at (Some made) act lost kept = changed_at made.0 (kept_after act lost) kept
 
 -- the records after an act that leaves this file without a name
 abbrev pub records_after : Act (Unit {0}) → Option FileId → List Kept → List Kept
