@@ -28,6 +28,22 @@ impl Model for OpenRead {
     ghost inverse = { λ r. record { file = r.file; prio = r.prio } };
 }
 
+impl OpenRead {
+    /// The file that is read.
+    pub fn file(&self) -> FileId
+        ensures { result ≡ self.now.file }
+    {
+        self.file
+    }
+
+    /// The priority of the read.
+    pub fn prio(&self) -> Prio
+        ensures { result ≡ self.now.prio }
+    {
+        self.prio
+    }
+}
+
 /// A job that was claimed on a worker.
 #[derive(Clone, Copy, Debug)]
 pub struct OpenClaim {
