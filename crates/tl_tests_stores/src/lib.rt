@@ -9,11 +9,15 @@ mod edge;
 #[cfg(test)]
 mod fleet;
 #[cfg(test)]
+mod gc;
+#[cfg(test)]
 mod jobs;
 #[cfg(test)]
 mod lineage;
 #[cfg(test)]
 mod plan;
+#[cfg(test)]
+mod prio;
 #[cfg(test)]
 mod store;
 #[cfg(test)]
