@@ -1,12 +1,10 @@
 //! What becomes of a file.
 
-ghost use Rattle.std.specs.Prelude.{◌≡◌, true, None, if◌then◌else◌};
-ghost use Rattle.tl_model.specs.Residency.{is_at};
-ghost use Rattle.tl_steps.specs.Steps.{place_after_done};
+ghost use Rattle.std.specs.Prelude.{◌≡◌};
 ghost use Rattle.tl_edge.specs.Data.{changed, next_number};
 
 use crate::output::Output;
-use tl_steps::same_worker;
+use tl_steps::{is_at, place_after_done, place_unless};
 use tl_types::WorkerId;
 
 /// What an event does to a file.
@@ -40,7 +38,7 @@ pub(crate) fn changed(change: Change, before: Output) -> Output
             ..before
         },
         Change::Make(worker, at) => Output {
-            place: place_made(worker, before.place),
+            place: place_after_done(true, worker, before.place),
             last_done: at,
             ..before
         },
@@ -76,31 +74,4 @@ pub(crate) fn next_number(number: u64) -> u64
     ensures { result ≡ next_number number }
 {
     number.saturating_add(1)
-}
-
-// Where a file is after its job was done on the worker, where before it was here.
-fn place_made(worker: WorkerId, here: Option<WorkerId>) -> Option<WorkerId>
-    ensures { result ≡ place_after_done true worker here }
-{
-    match here {
-        Some(_) => here,
-        None => Some(worker),
-    }
-}
-
-// Where a file is that was here, unless it is taken away.
-fn place_unless(is_taken: bool, here: Option<WorkerId>) -> Option<WorkerId>
-    ensures { result ≡ (if is_taken then None else here) }
-{
-    if is_taken { None } else { here }
-}
-
-// Whether the place is this worker.
-fn is_at(worker: WorkerId, place: &Option<WorkerId>) -> bool
-    ensures { result ≡ is_at worker place.now }
-{
-    match place {
-        Some(other) => same_worker(worker, *other),
-        None => false,
-    }
 }

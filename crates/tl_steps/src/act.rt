@@ -52,8 +52,8 @@ pub fn place_now<T>(act: &Act<T>, file: FileId, here: Option<WorkerId>) -> Optio
     }
 }
 
-// Where a file is after a job was done on the worker, where before it was here.
-fn place_after_done(is_made: bool, worker: WorkerId, here: Option<WorkerId>) -> Option<WorkerId>
+/// Where a file is after a job was done on the worker, where before it was here.
+pub fn place_after_done(is_made: bool, worker: WorkerId, here: Option<WorkerId>) -> Option<WorkerId>
     ensures { result ≡ place_after_done is_made worker here }
 {
     match here {
@@ -62,15 +62,15 @@ fn place_after_done(is_made: bool, worker: WorkerId, here: Option<WorkerId>) -> 
     }
 }
 
-// Where a file is that was here, unless it is taken away.
-fn place_unless(is_taken: bool, here: Option<WorkerId>) -> Option<WorkerId>
+/// Where a file is that was here, unless it is taken away.
+pub fn place_unless(is_taken: bool, here: Option<WorkerId>) -> Option<WorkerId>
     ensures { result ≡ (if is_taken then None else here) }
 {
     if is_taken { None } else { here }
 }
 
-// Whether the place is this worker.
-fn is_at(worker: WorkerId, place: &Option<WorkerId>) -> bool
+/// Whether the place is this worker.
+pub fn is_at(worker: WorkerId, place: &Option<WorkerId>) -> bool
     ensures { result ≡ is_at worker place.now }
 {
     match place {
