@@ -7,11 +7,11 @@ use Rattle.tl_model.specs.declared.event.Act.{Act}
 use Rattle.tl_model.specs.declared.event.Act.TheVariants.{Served, Claim, Done, Lose, Free, Drop, Load, Saved}
 use Rattle.tl_model.specs.declared.record.Record.{Record}
 use Rattle.tl_model.specs.Residency.{does, is_at}
-use Rattle.tl_steps.specs.Steps.{accepts, next_of, place_after_done, place_now, saves_now}
+use Rattle.tl_steps.specs.Steps.{accepts, is_gone, next_of, place_after_done, place_now, saves_now}
 use Rattle.tl_edge.specs.declared.change.Change.TheVariants.{Bring, Make, Take, TakeFrom, Secure, CountRead, Unname, TakeUp}
 use Rattle.tl_edge.specs.declared.kept.Kept.{Kept}
 use Rattle.tl_edge.specs.declared.output.Output.{Output}
-use Rattle.tl_edge.specs.Data.{acted, files_after, is_gone, is_in, next_number, read_at, taken_up, unnamed}
+use Rattle.tl_edge.specs.Data.{acted, files_after, is_in, next_number, read_at, taken_up, unnamed}
 use Rattle.tl_edge.proofs.Rows.{StartsAt, all-in-rows, changed_if, each-in-rows, file-in-rows, row-in-rows, rows}
 
 abbrev pub has_input_at : Option (List FileId) → FileId → Bool

@@ -20,14 +20,14 @@ use Rattle.tl_model.specs.Checkpoints.{is_leaf, last_done}
 use Rattle.tl_laws.specs.Numbers.{Numbered, get-within}
 use Rattle.tl_laws.specs.Made.{IsOutputOf}
 use Rattle.tl_laws.specs.Order.{HasOlderInputs, among-holds}
-use Rattle.tl_steps.specs.Steps.{accepts, added, next_of}
+use Rattle.tl_steps.specs.Steps.{UnnamesOnly, accepts, added, is_gone, next_of}
 use Rattle.tl_steps.specs.Within.{IsWithin}
 use Rattle.tl_steps.proofs.Lists.{map_after, map_same}
 use Rattle.tl_steps.proofs.Files.{after, each-file, is-output, new-number, not-true, not-yet, nowhere, place-same, saved-same}
 use Rattle.tl_edge.specs.declared.kept.Kept.{Kept}
 use Rattle.tl_edge.specs.declared.output.Output.{Output}
-use Rattle.tl_edge.specs.Data.{files_after, is_gone, is_in, new_output, next_number, save_next, taken_up}
-use Rattle.tl_edge.specs.Standing.{UnnamesOnly, files_in, kept_of, output_of, outputs_in, save_of}
+use Rattle.tl_edge.specs.Data.{files_after, is_in, new_output, next_number, save_next, taken_up}
+use Rattle.tl_edge.specs.Standing.{files_in, kept_of, output_of, outputs_in, save_of}
 use Rattle.tl_edge.proofs.Rows.{starts}
 use Rattle.tl_edge.proofs.Acting.{after-in-rows, has_input_at, is_taken_up, is_use_now, output_after, taken_with}
 

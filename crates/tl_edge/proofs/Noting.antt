@@ -22,7 +22,7 @@ use Rattle.tl_laws.specs.Order.{HasOlderInputs, all-ordered}
 use Rattle.tl_laws.specs.Tickets.{records-with}
 use Rattle.tl_needs.specs.Next.{event-next}
 use Rattle.tl_needs.specs.Sound.{past-numbered, permitted-before}
-use Rattle.tl_steps.specs.Steps.{added, next_of}
+use Rattle.tl_steps.specs.Steps.{UnnamesOnly, added, next_of}
 use Rattle.tl_steps.specs.Within.{IsWithin}
 use Rattle.tl_steps.proofs.Files.{after}
 use Rattle.tl_steps.proofs.Lists.{map_append}
@@ -30,7 +30,7 @@ use Rattle.tl_steps.proofs.Within.{all-within}
 use Rattle.tl_edge.specs.declared.kept.Kept.{Kept}
 use Rattle.tl_edge.specs.declared.output.Output.{Output}
 use Rattle.tl_edge.specs.Data.{EdgeData, edge_after, files_after, new_save, next_number, save_next, taken_up, with_files, with_inputs}
-use Rattle.tl_edge.specs.Standing.{HasRoomForAll, StandsFor, UnnamesOnly, files_in, kept_of, outputs_in}
+use Rattle.tl_edge.specs.Standing.{HasRoomForAll, StandsFor, files_in, kept_of, outputs_in}
 use Rattle.tl_edge.proofs.Named.{just-named, outputs-named}
 use Rattle.tl_edge.proofs.Changes.{NoNewNames, RoomFor, files-same, next-is, outputs-new, saves-after}
 

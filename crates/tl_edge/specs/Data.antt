@@ -52,11 +52,6 @@ next_number n = min (n + 1) 18446744073709551615
 abbrev pub is_in : FileId → List FileId → Bool
 is_in f fs = list_any (file_same f) fs
 
--- the file is the one that loses its name
-abbrev pub is_gone : Option FileId → FileId → Bool
-is_gone None f = false
-is_gone (Some lost) f = file_same f lost
-
 -- ---- files
 
 -- a file whose record is just accepted

@@ -15,8 +15,7 @@ use Rattle.tl_model.specs.declared.event.Act.TheVariants.{Call}
 use Rattle.tl_model.specs.Namespace.{PathOf, Node, dir, file, Names, moved, node_at, with_outputs, with_pin, without_name}
 use Rattle.tl_model.specs.Past.{Past}
 use Rattle.tl_model.specs.History.{is_file_node, is_named, names, names_after}
-use Rattle.tl_edge.specs.Data.{is_gone}
-use Rattle.tl_edge.specs.Standing.{UnnamesOnly}
+use Rattle.tl_steps.specs.Steps.{UnnamesOnly, is_gone}
 
 -- a delete that was answered as done
 abbrev pub deletes_by : Reply → Command (Unit {0}) → Bool

@@ -1,10 +1,10 @@
 -- How what is kept stands for a past.
-use Rattle.std.specs.Prelude.{◌≡◌, Bool, ◌&&◌, not, List, [], ◌∷◌, length, map, Option, Some}
+use Rattle.std.specs.Prelude.{◌≡◌, List, [], ◌∷◌, length, map, Some}
 use Rattle.tl_types.specs.declared.actor.Actor.{Actor}
 use Rattle.tl_types.specs.declared.file_id.FileId.{FileId}
 use Rattle.tl_model.specs.declared.header.Header.{Header}
 use Rattle.tl_model.specs.declared.record.Record.{Record}
-use Rattle.tl_model.specs.Past.{Past, Plain}
+use Rattle.tl_model.specs.Past.{Past}
 use Rattle.tl_model.specs.History.{inputs_of, is_named, outputs_of, records}
 use Rattle.tl_model.specs.Actors.{actors, open_save}
 use Rattle.tl_model.specs.Residency.{is_saved, place, reads}
@@ -12,7 +12,7 @@ use Rattle.tl_model.specs.Checkpoints.{is_leaf, last_done}
 use Rattle.tl_edge.specs.declared.save.Save.{Save}
 use Rattle.tl_edge.specs.declared.output.Output.{Output}
 use Rattle.tl_edge.specs.declared.kept.Kept.{Kept}
-use Rattle.tl_edge.specs.Data.{EdgeData, is_gone, new_output}
+use Rattle.tl_edge.specs.Data.{EdgeData, new_output}
 
 -- ---- the past
 
@@ -58,13 +58,3 @@ HasRoom edge r = edge.next ≡ Some (kept_of r)
 abbrev pub HasRoomForAll : EdgeData → List Record → Type 0
 HasRoomForAll edge [] = Unit {0}
 HasRoomForAll edge (r ∷ rs) = HasRoom edge r
-
--- ---- names
-
--- the file is named before the event, and not after it
-abbrev pub loses_name : Past → Plain → FileId → Bool
-loses_name past e f = is_named past f && not (is_named (e ∷ past) f)
-
--- this is the file that the event leaves without a name; None where there is no such file
-abbrev pub UnnamesOnly : Past → Plain → Option FileId → Type 0
-UnnamesOnly past e gone = (f : FileId) → is_gone gone f ≡ loses_name past e f

@@ -6,8 +6,8 @@ ghost use Rattle.tl_model.specs.Past.{Past, act_with, event_with, without_ticket
 ghost use Rattle.tl_model.specs.Rules.{all_permitted, lawful_judge};
 ghost use Rattle.tl_edge.specs.Data.{choice, edge_after, files_after, next_number, taken_up, with_each, with_files, with_inputs};
 ghost use Rattle.tl_edge.specs.declared.change.Change.TheVariants.{TakeUp};
-ghost use Rattle.tl_edge.specs.Standing.{HasRoom, HasRoomForAll, StandsFor, UnnamesOnly};
-ghost use Rattle.tl_steps.specs.Steps.{added, left_room};
+ghost use Rattle.tl_edge.specs.Standing.{HasRoom, HasRoomForAll, StandsFor};
+ghost use Rattle.tl_steps.specs.Steps.{UnnamesOnly, added, left_room};
 
 use crate::acts::note_files;
 use crate::change::{Change, next_number};

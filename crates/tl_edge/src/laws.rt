@@ -10,8 +10,8 @@ ghost use Rattle.tl_model.specs.declared.event.Act.TheVariants.{Call};
 ghost use Rattle.tl_model.specs.History.{names};
 ghost use Rattle.tl_model.specs.Namespace.{PathOf, node_at};
 ghost use Rattle.tl_model.specs.Past.{Past};
+ghost use Rattle.tl_steps.specs.Steps.{UnnamesOnly};
 ghost use Rattle.tl_edge.specs.Names.{HasFilesOnce, HasPathsOnce, deletes, file_in};
-ghost use Rattle.tl_edge.specs.Standing.{UnnamesOnly};
 
 /// An event that is no delete, or one that was not answered as done, leaves no file without a name.
 pub fn only_deletes_unname()

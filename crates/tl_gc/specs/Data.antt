@@ -9,7 +9,7 @@ use Rattle.tl_model.specs.declared.event.Act.TheVariants.{Saved, Collect}
 use Rattle.tl_model.specs.Past.{Plain}
 use Rattle.tl_model.specs.Residency.{collects}
 use Rattle.tl_steps.specs.declared.seat.Seat.{Seat}
-use Rattle.tl_steps.specs.Steps.{is_read_at, is_running_at, left_room, next_of, saves_now, seat_after}
+use Rattle.tl_steps.specs.Steps.{is_gone, is_read_at, is_running_at, left_room, next_of, saves_now, seat_after}
 use Rattle.tl_gc.specs.declared.output.Output.{Output}
 use Rattle.tl_gc.specs.declared.kept.Kept.{Kept}
 
@@ -20,11 +20,6 @@ pub record GcData : Type 0 where
   pub next : Option Kept
 
 -- ---- files
-
--- the file is the one that loses its name
-abbrev pub is_gone : Option FileId → FileId → Bool
-is_gone None f = false
-is_gone (Some lost) f = file_same f lost
 
 -- a file whose record is just accepted
 abbrev pub new_output : FileId → Output

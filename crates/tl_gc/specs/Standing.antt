@@ -1,8 +1,8 @@
 -- How what is kept stands for a past.
-use Rattle.std.specs.Prelude.{◌≡◌, Bool, false, ◌&&◌, not, List, [], ◌∷◌, map, Option, Some}
+use Rattle.std.specs.Prelude.{◌≡◌, false, List, [], ◌∷◌, map, Some}
 use Rattle.tl_types.specs.declared.file_id.FileId.{FileId}
 use Rattle.tl_model.specs.declared.record.Record.{Record}
-use Rattle.tl_model.specs.Past.{Past, Plain}
+use Rattle.tl_model.specs.Past.{Past}
 use Rattle.tl_model.specs.History.{id_of, inputs_of, is_named, outputs_of, records}
 use Rattle.tl_model.specs.Actors.{actors}
 use Rattle.tl_model.specs.Residency.{is_collected, is_saved}
@@ -10,7 +10,7 @@ use Rattle.tl_laws.specs.Numbers.{Numbered}
 use Rattle.tl_steps.specs.Steps.{seat_of}
 use Rattle.tl_gc.specs.declared.kept.Kept.{Kept}
 use Rattle.tl_gc.specs.declared.output.Output.{Output}
-use Rattle.tl_gc.specs.Data.{GcData, is_gone, new_output}
+use Rattle.tl_gc.specs.Data.{GcData, new_output}
 
 -- ---- the past
 
@@ -45,13 +45,3 @@ HasRoom gc r = gc.next ≡ Some (kept_of r)
 abbrev pub HasRoomForAll : GcData → List Record → Type 0
 HasRoomForAll gc [] = Unit {0}
 HasRoomForAll gc (r ∷ rs) = HasRoom gc r
-
--- ---- names
-
--- the file is named before the event, and not after it
-abbrev pub loses_name : Past → Plain → FileId → Bool
-loses_name past e f = is_named past f && not (is_named (e ∷ past) f)
-
--- this is the file that the event leaves without a name; None where there is no such file
-abbrev pub UnnamesOnly : Past → Plain → Option FileId → Type 0
-UnnamesOnly past e gone = (f : FileId) → is_gone gone f ≡ loses_name past e f

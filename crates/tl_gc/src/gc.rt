@@ -5,10 +5,10 @@ ghost use Rattle.tl_model.specs.Past.{Past, act_with, event_with, without_ticket
 ghost use Rattle.tl_model.specs.Needs.{garbage};
 ghost use Rattle.tl_model.specs.Plan.{is_task};
 ghost use Rattle.tl_model.specs.Rules.{all_permitted, lawful_judge};
-ghost use Rattle.tl_steps.specs.Steps.{added, left_room};
+ghost use Rattle.tl_steps.specs.Steps.{UnnamesOnly, added, left_room};
 ghost use Rattle.tl_gc.specs.declared.kept.Kept.{Kept as KeptOf};
 ghost use Rattle.tl_gc.specs.Data.{found_garbage, gc_after, records_after, with_kept};
-ghost use Rattle.tl_gc.specs.Standing.{HasRoom, HasRoomForAll, StandsFor, UnnamesOnly};
+ghost use Rattle.tl_gc.specs.Standing.{HasRoom, HasRoomForAll, StandsFor};
 
 use crate::kept::{Kept, kept_of, note_records};
 use crate::needs::find_garbage;

@@ -2,10 +2,10 @@
 
 ghost use Rattle.std.specs.Prelude.{◌≡◌};
 ghost use Rattle.tl_model.specs.Past.{act_with};
-ghost use Rattle.tl_gc.specs.Data.{is_gone, is_held, is_unsaved, new_output, output_after};
+ghost use Rattle.tl_gc.specs.Data.{is_held, is_unsaved, new_output, output_after};
 
 use tl_model::Act;
-use tl_steps::{Seat, is_read, same_file, saves_now};
+use tl_steps::{Seat, is_gone, is_read, same_file, saves_now};
 use tl_types::FileId;
 
 /// A file that a record makes, and what became of it.
@@ -36,16 +36,6 @@ pub(crate) fn output_after<T>(act: &Act<T>, gone: Option<FileId>, before: Output
         file: before.file,
         is_saved: saves_now(act, before.file) || before.is_saved,
         is_named: before.is_named && !is_gone(gone, before.file),
-    }
-}
-
-// Whether the file is the one that loses its name.
-fn is_gone(gone: Option<FileId>, file: FileId) -> bool
-    ensures { result ≡ is_gone gone file }
-{
-    match gone {
-        Some(lost) => same_file(file, lost),
-        None => false,
     }
 }
 

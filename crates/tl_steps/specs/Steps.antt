@@ -1,5 +1,5 @@
 -- What one event makes of an actor, a file and a record.
-use Rattle.std.specs.Prelude.{Bool, true, false, ◌&&◌, List, [], Option, Some, None, if◌then◌else◌}
+use Rattle.std.specs.Prelude.{◌≡◌, Bool, true, false, ◌&&◌, not, List, [], ◌∷◌, Option, Some, None, if◌then◌else◌}
 use Rattle.std.specs.List.{list_any}
 use Rattle.tl_types.specs.Same.{actor_same, file_same, record_same}
 use Rattle.tl_types.specs.declared.actor.Actor.{Actor}
@@ -14,7 +14,7 @@ use Rattle.tl_model.specs.declared.event.Act.{Act}
 use Rattle.tl_model.specs.declared.event.Act.TheVariants.{Call, Done, Lose, Free, Drop, Load, Saved}
 use Rattle.tl_model.specs.declared.record.Record.{Record}
 use Rattle.tl_model.specs.Past.{Past, Plain}
-use Rattle.tl_model.specs.History.{names, record_made}
+use Rattle.tl_model.specs.History.{is_named, names, record_made}
 use Rattle.tl_model.specs.Actors.{OpenRead, OpenClaim, claim_after, claim_after_loss, claims_record, open_claim, open_read, read_after, reads_file}
 use Rattle.tl_model.specs.Residency.{is_at}
 use Rattle.tl_steps.specs.declared.seat.Seat.{Seat}
@@ -66,6 +66,21 @@ place_now _ f here = here
 abbrev pub saves_now : Act (Unit {0}) → FileId → Bool
 saves_now (Saved g size digest) f = file_same f g
 saves_now _ f = false
+
+-- ---- names
+
+-- the file is the one that loses its name
+abbrev pub is_gone : Option FileId → FileId → Bool
+is_gone None f = false
+is_gone (Some lost) f = file_same f lost
+
+-- the file is named before the event, and not after it
+abbrev pub loses_name : Past → Plain → FileId → Bool
+loses_name past e f = is_named past f && not (is_named (e ∷ past) f)
+
+-- this is the file that the event leaves without a name; None where there is no such file
+abbrev pub UnnamesOnly : Past → Plain → Option FileId → Type 0
+UnnamesOnly past e gone = (f : FileId) → is_gone gone f ≡ loses_name past e f
 
 -- ---- records
 

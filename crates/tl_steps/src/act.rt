@@ -3,7 +3,7 @@
 ghost use Rattle.std.specs.Prelude.{◌≡◌, if◌then◌else◌};
 ghost use Rattle.tl_model.specs.Past.{act_with};
 ghost use Rattle.tl_model.specs.Residency.{does, is_at};
-ghost use Rattle.tl_steps.specs.Steps.{accepts, place_after_done, place_now, saves_now};
+ghost use Rattle.tl_steps.specs.Steps.{accepts, is_gone, place_after_done, place_now, saves_now};
 
 use crate::same::{same_file, same_record, same_worker};
 use tl_model::{Act, Command, Reply};
@@ -86,5 +86,15 @@ pub fn saves_now<T>(act: &Act<T>, file: FileId) -> bool
     match act {
         Act::Saved(saved, _, _) => same_file(file, *saved),
         _ => false,
+    }
+}
+
+/// Whether the file is the one that loses its name.
+pub fn is_gone(gone: Option<FileId>, file: FileId) -> bool
+    ensures { result ≡ is_gone gone file }
+{
+    match gone {
+        Some(lost) => same_file(file, lost),
+        None => false,
     }
 }

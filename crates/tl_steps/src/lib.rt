@@ -7,7 +7,9 @@ mod laws;
 mod same;
 mod seat;
 
-pub use act::{accepts, does, is_at, place_after_done, place_now, place_unless, saves_now};
+pub use act::{
+    accepts, does, is_at, is_gone, place_after_done, place_now, place_unless, saves_now,
+};
 pub use laws::journals_speak_of_the_accepted;
 pub use same::{same_actor, same_file, same_record, same_worker};
 pub use seat::{OpenClaim, OpenRead, SEATS, Seat, is_read, is_running, new_seats, note_seats};
