@@ -1,7 +1,6 @@
 pub mod Acting
 pub mod Changes
 pub mod Choosing
-pub mod Lists
 pub mod Named
 pub mod Noting
 pub mod Rows

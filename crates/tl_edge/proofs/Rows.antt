@@ -8,9 +8,10 @@ use Rattle.tl_model.specs.History.{files_from, id_of, output_count, outputs_of}
 use Rattle.tl_laws.specs.Numbers.{Numbered}
 use Rattle.tl_steps.proofs.Lists.{map_after}
 use Rattle.tl_steps.proofs.Files.{not-true}
+use Rattle.tl_steps.specs.Steps.{changed_at}
 use Rattle.tl_edge.specs.declared.change.Change.{Change}
 use Rattle.tl_edge.specs.declared.output.Output.{Output}
-use Rattle.tl_edge.specs.Data.{changed, changed_at, is_in, with_each, with_file, with_row, with_rows}
+use Rattle.tl_edge.specs.Data.{changed, is_in, with_each, with_file, with_row, with_rows}
 
 -- the records are numbered from n on
 abbrev pub StartsAt : ℕ → List Record → Type 0

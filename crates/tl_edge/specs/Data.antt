@@ -1,5 +1,5 @@
 -- What is kept to choose the file that is saved next, what one event makes of it, and the choice.
-use Rattle.std.specs.Prelude.{ℕ, zero, suc, ◌+◌, min, nat_lt, nat_le, Bool, true, false, ◌&&◌, not, List, [], ◌∷◌, ◌++◌, map, slice_get, Option, Some, None, is_some, if◌then◌else◌}
+use Rattle.std.specs.Prelude.{ℕ, ◌+◌, min, nat_lt, nat_le, Bool, true, false, ◌&&◌, not, List, [], ◌∷◌, ◌++◌, map, slice_get, Option, Some, None, is_some, if◌then◌else◌}
 use Rattle.std.specs.List.{list_any}
 use Rattle.tl_types.specs.Same.{actor_same, file_same}
 use Rattle.tl_types.specs.declared.actor.Actor.{Actor}
@@ -11,7 +11,7 @@ use Rattle.tl_model.specs.Past.{Plain}
 use Rattle.tl_model.specs.Tables.{better}
 use Rattle.tl_model.specs.Actors.{save_after, saves_file}
 use Rattle.tl_model.specs.Residency.{is_at}
-use Rattle.tl_steps.specs.Steps.{left_room, next_of, place_after_done}
+use Rattle.tl_steps.specs.Steps.{changed_at, left_room, next_of, place_after_done}
 use Rattle.tl_edge.specs.declared.change.Change.{Change}
 use Rattle.tl_edge.specs.declared.change.Change.TheVariants.{Bring, Make, Take, TakeFrom, Secure, CountRead, Unname, TakeUp}
 use Rattle.tl_edge.specs.declared.save.Save.{Save}
@@ -132,11 +132,6 @@ changed TakeUp o = record {
   reads = o.reads;
   last_done = o.last_done;
 }
-
-abbrev pub changed_at : {A : Type 0} → ℕ → (A → A) → List A → List A
-changed_at n change [] = []
-changed_at zero change (x ∷ xs) = change x ∷ xs
-changed_at (suc n) change (x ∷ xs) = x ∷ changed_at n change xs
 
 -- a change of one file
 abbrev pub with_file : Change → FileId → List (List Output) → List (List Output)

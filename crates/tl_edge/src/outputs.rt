@@ -2,7 +2,8 @@
 
 ghost use Rattle.std.specs.Prelude.{◌≡◌, IfOk, map, if◌then◌else◌};
 ghost use Rattle.tl_model.specs.History.{files_from};
-ghost use Rattle.tl_edge.specs.Data.{changed, changed_at, is_in, new_output, with_each, with_file, with_row, with_rows};
+ghost use Rattle.tl_steps.specs.Steps.{changed_at};
+ghost use Rattle.tl_edge.specs.Data.{changed, is_in, new_output, with_each, with_file, with_row, with_rows};
 
 use crate::change::{Change, changed};
 use crate::output::{Output, new_output};

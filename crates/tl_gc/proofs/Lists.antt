@@ -1,7 +1,7 @@
 -- Lists of which single elements are set.
-use Rattle.std.proofs.Common.{◌≡◌, ◌∙◌, ◌⊎◌, inl, inr, arith, ℕ, zero, suc, ◌+◌, ◌<◌, Bool, true, false, ◌&&◌, ◌||◌, List, [], ◌∷◌, drop, length, map, slice_get, slice_index_or, slice_set, ◌≤◌, Some, refl, sym, ap}
+use Rattle.std.proofs.Common.{◌≡◌, ◌∙◌, ◌⊎◌, inl, inr, arith, ℕ, zero, suc, ◌+◌, ◌<◌, Bool, true, false, ◌&&◌, ◌||◌, List, [], ◌∷◌, drop, length, map, slice_get, slice_set, Some, refl, sym, ap}
 use Rattle.std.specs.List.{list_any}
-use Rattle.tl_gc.specs.Data.{changed_at}
+use Rattle.tl_steps.specs.Steps.{changed_at}
 
 pub get-set : {A : Type 0} (xs : List A) (k : ℕ) (x : A) → k < length xs → slice_get (slice_set xs k x) k ≡ Some x
 get-set [] k x less = absurd (omega arith)
@@ -21,17 +21,6 @@ length-set [] zero x = refl
 length-set [] (suc k) x = refl
 length-set (y ∷ xs) zero x = refl
 length-set (y ∷ xs) (suc k) x = ap suc (length-set xs k x)
-
-pub set-changed : {A : Type 0} (xs : List A) (n : ℕ) (d : A) (change : A → A) → slice_set xs n (change (slice_index_or xs n d)) ≡ changed_at n change xs
-set-changed [] zero d change = refl
-set-changed [] (suc n) d change = refl
-set-changed (x ∷ xs) zero d change = refl
-set-changed (x ∷ xs) (suc n) d change = ap (λ ys. x ∷ ys) (set-changed xs n d change)
-
-pub unchanged-past : {A : Type 0} (xs : List A) (n : ℕ) (change : A → A) → length xs ≤ n → xs ≡ changed_at n change xs
-unchanged-past [] n change out = refl
-unchanged-past (x ∷ xs) zero change out = absurd (omega arith)
-unchanged-past (x ∷ xs) (suc n) change out = ap (λ ys. x ∷ ys) (unchanged-past xs n change (omega arith))
 
 pub length-changed : {A : Type 0} (xs : List A) (n : ℕ) (change : A → A) → length (changed_at n change xs) ≡ length xs
 length-changed [] n change = refl

@@ -23,14 +23,14 @@ use Rattle.tl_laws.specs.Numbers.{Numbered, get-within}
 use Rattle.tl_laws.specs.Made.{IsOutputOf}
 use Rattle.tl_needs.specs.Next.{event-next}
 use Rattle.tl_needs.specs.Sound.{past-numbered, permitted-before}
-use Rattle.tl_steps.specs.Steps.{UnnamesOnly, added, is_gone, new_seat, next_of, saves_now, seat_after}
+use Rattle.tl_steps.specs.Steps.{UnnamesOnly, added, changed_at, is_gone, new_seat, next_of, saves_now, seat_after}
 use Rattle.tl_steps.specs.Within.{IsWithin}
 use Rattle.tl_steps.proofs.Files.{after, each-file, is-output, new-number, not-true, not-yet, saved-same}
 use Rattle.tl_steps.proofs.Lists.{get_map, map_after, map_append, map_same}
 use Rattle.tl_steps.proofs.Seats.{seats-after}
 use Rattle.tl_steps.proofs.Within.{all-within}
 use Rattle.tl_gc.specs.declared.kept.Kept.{Kept}
-use Rattle.tl_gc.specs.Data.{GcData, changed_at, gc_after, kept_after, maker_of, new_output, noted_at, output_after, records_after, touched, with_kept}
+use Rattle.tl_gc.specs.Data.{GcData, gc_after, kept_after, maker_of, new_output, noted_at, output_after, records_after, touched, with_kept}
 use Rattle.tl_gc.specs.Standing.{HasRoomForAll, StandsFor, kept_in, kept_of, output_of}
 use Rattle.tl_gc.proofs.Collected.{collected-within}
 use Rattle.tl_gc.proofs.Lists.{get-changed, get-changed-other, length-changed, length-map, map-at-each, same_or_not}

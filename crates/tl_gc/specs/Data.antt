@@ -9,7 +9,7 @@ use Rattle.tl_model.specs.declared.event.Act.TheVariants.{Saved, Collect}
 use Rattle.tl_model.specs.Past.{Plain}
 use Rattle.tl_model.specs.Residency.{collects}
 use Rattle.tl_steps.specs.declared.seat.Seat.{Seat}
-use Rattle.tl_steps.specs.Steps.{is_gone, is_read_at, is_running_at, left_room, next_of, saves_now, seat_after}
+use Rattle.tl_steps.specs.Steps.{changed_at, is_gone, is_read_at, is_running_at, left_room, next_of, saves_now, seat_after}
 use Rattle.tl_gc.specs.declared.output.Output.{Output}
 use Rattle.tl_gc.specs.declared.kept.Kept.{Kept}
 
@@ -46,11 +46,6 @@ kept_after act gone before = record {
   outputs = outputs_after act gone before.outputs;
   is_collected = collects before.made act || before.is_collected;
 }
-
-abbrev pub changed_at : {A : Type 0} → ℕ → (A → A) → List A → List A
-changed_at n change [] = []
-changed_at zero change (x ∷ xs) = change x ∷ xs
-changed_at (suc n) change (x ∷ xs) = x ∷ changed_at n change xs
 
 abbrev pub maker_of : Option FileId → Option RecordId
 maker_of None = None

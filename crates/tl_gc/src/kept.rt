@@ -3,7 +3,8 @@
 ghost use Rattle.std.specs.Prelude.{◌≡◌, IfOk};
 ghost use Rattle.tl_model.specs.Past.{act_with};
 ghost use Rattle.tl_model.specs.Residency.{collects};
-ghost use Rattle.tl_gc.specs.Data.{changed_at, kept_after, maker_of, records_after, touched};
+ghost use Rattle.tl_steps.specs.Steps.{changed_at};
+ghost use Rattle.tl_gc.specs.Data.{kept_after, maker_of, records_after, touched};
 ghost use Rattle.tl_gc.specs.Standing.{kept_of};
 
 use crate::outputs::Outputs;

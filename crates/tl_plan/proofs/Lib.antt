@@ -1,5 +1,4 @@
 pub mod Changes
-pub mod Lists
 pub mod Looking
 pub mod Marks
 pub mod Noting

@@ -10,8 +10,9 @@ use Rattle.tl_model.specs.History.{files_from, id_of, output_count}
 use Rattle.tl_model.specs.Residency.{is_saved, place}
 use Rattle.tl_laws.specs.Numbers.{Numbered}
 use Rattle.tl_steps.proofs.Files.{not-true}
+use Rattle.tl_steps.specs.Steps.{changed_at}
 use Rattle.tl_plan.specs.declared.output.Output.{Output}
-use Rattle.tl_plan.specs.Data.{all_awaited, awaited, changed_at}
+use Rattle.tl_plan.specs.Data.{all_awaited, awaited}
 use Rattle.tl_plan.specs.Standing.{files_with, output_with}
 
 -- the records are numbered from n on

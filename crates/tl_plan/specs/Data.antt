@@ -1,5 +1,5 @@
 -- What the plan keeps, and what one event and the tables make of it.
-use Rattle.std.specs.Prelude.{ℕ, zero, suc, Bool, true, false, ◌&&◌, ◌||◌, not, List, [], ◌∷◌, ◌++◌, map, slice_get, slice_set, Option, Some, None, is_some, if◌then◌else◌}
+use Rattle.std.specs.Prelude.{ℕ, suc, Bool, true, false, ◌&&◌, ◌||◌, not, List, [], ◌∷◌, ◌++◌, map, slice_get, slice_set, Option, Some, None, is_some, if◌then◌else◌}
 use Rattle.std.specs.List.{list_all, list_any}
 use Rattle.tl_types.specs.declared.file_id.FileId.{FileId}
 use Rattle.tl_types.specs.declared.worker_id.WorkerId.{WorkerId}
@@ -7,7 +7,7 @@ use Rattle.tl_model.specs.declared.event.Act.{Act}
 use Rattle.tl_model.specs.Past.{Plain}
 use Rattle.tl_model.specs.Residency.{does}
 use Rattle.tl_steps.specs.declared.seat.Seat.{Seat}
-use Rattle.tl_steps.specs.Steps.{is_read_at, is_running_at, seat_after, place_now, saves_now, next_of, left_room}
+use Rattle.tl_steps.specs.Steps.{changed_at, is_read_at, is_running_at, left_room, next_of, place_now, saves_now, seat_after}
 use Rattle.tl_plan.specs.declared.output.Output.{Output}
 use Rattle.tl_plan.specs.declared.job.Job.{Job}
 use Rattle.tl_plan.specs.declared.kept.Kept.{Kept}
@@ -59,11 +59,6 @@ with_task is_task job = record { made = job.made; is_job = job.is_job; inputs = 
 -- a job is a task where it was never done, or where an output is wanted and not available
 abbrev pub is_task_now : List Seat → Job → List Output → Bool
 is_task_now seats job outputs = job.is_job && (not job.was_done || list_any (is_lacking seats) outputs)
-
-abbrev pub changed_at : {A : Type 0} → ℕ → (A → A) → List A → List A
-changed_at n change [] = []
-changed_at zero change (x ∷ xs) = change x ∷ xs
-changed_at (suc n) change (x ∷ xs) = x ∷ changed_at n change xs
 
 -- a task has the file as input
 abbrev pub with_awaited : FileId → List (List Output) → List (List Output)

@@ -5,7 +5,8 @@ ghost use Rattle.std.specs.List.{list_any};
 ghost use Rattle.std.specs.Option.{option_copied};
 ghost use Rattle.tl_model.specs.Past.{act_with};
 ghost use Rattle.tl_model.specs.History.{files_from};
-ghost use Rattle.tl_plan.specs.Data.{all_awaited, awaited, changed_at, is_lacking, new_output, outputs_after, with_awaited};
+ghost use Rattle.tl_steps.specs.Steps.{changed_at};
+ghost use Rattle.tl_plan.specs.Data.{all_awaited, awaited, is_lacking, new_output, outputs_after, with_awaited};
 
 use crate::output::{Output, awaited, is_lacking, new_output, output_after};
 use std::alloc::Global;

@@ -1,5 +1,4 @@
 pub mod Changes
-pub mod Lists
 pub mod Noting
 pub mod Places
 pub mod Raising

@@ -10,7 +10,8 @@ use Rattle.tl_model.specs.History.{files_from, id_of, inputs_of, output_count, o
 use Rattle.tl_model.specs.Residency.{is_available}
 use Rattle.tl_model.specs.Plan.{is_missing_input}
 use Rattle.tl_steps.proofs.Files.{not-true}
-use Rattle.tl_prio.specs.Data.{all_raised, changed_at, files_of, is_lacking}
+use Rattle.tl_steps.specs.Steps.{changed_at}
+use Rattle.tl_prio.specs.Data.{all_raised, files_of, is_lacking}
 use Rattle.tl_prio.specs.Standing.{kept_in, output_in}
 use Rattle.tl_prio.proofs.Places.{StartsAt}
 

@@ -1,5 +1,5 @@
 -- What is kept of records, files and actors, what one event makes of it, and the walk that finds priorities.
-use Rattle.std.specs.Prelude.{ℕ, zero, suc, max, nat_lt, Bool, false, ◌&&◌, ◌||◌, not, List, [], ◌∷◌, ◌++◌, map, slice_get, Option, Some, None, is_some, if◌then◌else◌}
+use Rattle.std.specs.Prelude.{ℕ, max, nat_lt, Bool, false, ◌&&◌, ◌||◌, not, List, [], ◌∷◌, ◌++◌, map, slice_get, Option, Some, None, is_some, if◌then◌else◌}
 use Rattle.std.specs.List.{list_any}
 use Rattle.tl_types.specs.Same.{file_same, record_same}
 use Rattle.tl_types.specs.declared.file_id.FileId.{FileId}
@@ -10,7 +10,7 @@ use Rattle.tl_model.specs.Actors.{OpenRead}
 use Rattle.tl_model.specs.Residency.{does}
 use Rattle.tl_model.specs.Plan.{greatest}
 use Rattle.tl_steps.specs.declared.seat.Seat.{Seat}
-use Rattle.tl_steps.specs.Steps.{is_running_at, seat_after, place_now, saves_now, next_of, left_room}
+use Rattle.tl_steps.specs.Steps.{changed_at, is_running_at, left_room, next_of, place_now, saves_now, seat_after}
 use Rattle.tl_prio.specs.declared.choice.Choice.{Choice}
 use Rattle.tl_prio.specs.declared.kept.Kept.{Kept}
 use Rattle.tl_prio.specs.declared.output.Output.{Output}
@@ -109,11 +109,6 @@ file_at f records = slice_get (files_of (slice_get records f.rec.0)) f.out
 abbrev pub is_lacking : Option Output → Bool
 is_lacking None = false
 is_lacking (Some output) = not (is_here output)
-
-abbrev pub changed_at : {A : Type 0} → ℕ → (A → A) → List A → List A
-changed_at n change [] = []
-changed_at zero change (x ∷ xs) = change x ∷ xs
-changed_at (suc n) change (x ∷ xs) = x ∷ changed_at n change xs
 
 -- one of this priority waits for the file, where it is lacking
 abbrev pub with_raised : ℕ → List Kept → FileId → List ℕ → List ℕ

@@ -4,7 +4,8 @@ ghost use Rattle.std.specs.Prelude.{◌≡◌, max};
 ghost use Rattle.std.specs.Option.{option_copied};
 ghost use Rattle.tl_model.specs.Past.{Past};
 ghost use Rattle.tl_model.specs.Plan.{is_task};
-ghost use Rattle.tl_prio.specs.Data.{all_raised, changed_at, file_at, greatest_read, is_lacking, none_waiting, own_prio_of, prio_with, read_prio, waiting_after, waiting_at, with_raised};
+ghost use Rattle.tl_steps.specs.Steps.{changed_at};
+ghost use Rattle.tl_prio.specs.Data.{all_raised, file_at, greatest_read, is_lacking, none_waiting, own_prio_of, prio_with, read_prio, waiting_after, waiting_at, with_raised};
 
 use crate::kept::Kept;
 use crate::number::{greater, least};

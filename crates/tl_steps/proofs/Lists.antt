@@ -1,9 +1,10 @@
 -- A list of which one element changes after another, and the files of a record.
-use Rattle.std.proofs.Common.{◌≡◌, ◌∙◌, arith, ℕ, zero, suc, ◌+◌, ◌<◌, Bool, ◌||◌, List, [], ◌∷◌, ◌++◌, length, map, slice_get, slice_set, slice_index_or, Some, None, refl, sym, ap}
+use Rattle.std.proofs.Common.{◌≡◌, ◌∙◌, arith, ℕ, zero, suc, ◌+◌, ◌<◌, ◌≤◌, Bool, ◌||◌, List, [], ◌∷◌, ◌++◌, length, map, slice_get, slice_set, slice_index_or, Some, None, refl, sym, ap}
 use Rattle.std.specs.List.{list_any}
 use Rattle.tl_types.specs.declared.file_id.FileId.{FileId}
 use Rattle.tl_types.specs.declared.record_id.RecordId.{RecordId}
 use Rattle.tl_model.specs.History.{files_from}
+use Rattle.tl_steps.specs.Steps.{changed_at}
 
 -- the first n have changed
 abbrev pub changed_first : {A : Type 0} → ℕ → (A → A) → List A → List A
@@ -28,6 +29,18 @@ changed_next all xs n d change same l =
 pub changed_all : {A : Type 0} (xs : List A) (change : A → A) → changed_first (length xs) change xs ≡ map change xs
 changed_all [] change = refl
 changed_all (x ∷ xs) change = ap (λ ys. change x ∷ ys) (changed_all xs change)
+
+-- one of them changes
+pub set_changed : {A : Type 0} (xs : List A) (n : ℕ) (d : A) (change : A → A) → slice_set xs n (change (slice_index_or xs n d)) ≡ changed_at n change xs
+set_changed [] zero d change = refl
+set_changed [] (suc n) d change = refl
+set_changed (x ∷ xs) zero d change = refl
+set_changed (x ∷ xs) (suc n) d change = ap (λ ys. x ∷ ys) (set_changed xs n d change)
+
+pub unchanged_past : {A : Type 0} (xs : List A) (n : ℕ) (change : A → A) → length xs ≤ n → xs ≡ changed_at n change xs
+unchanged_past [] n change out = refl
+unchanged_past (x ∷ xs) zero change out = absurd (omega arith)
+unchanged_past (x ∷ xs) (suc n) change out = ap (λ ys. x ∷ ys) (unchanged_past xs n change (omega arith))
 
 -- two functions that are the same on what stands in a list
 pub map_same : {A B : Type 0} (f g : A → B) (xs : List A) → ((i : ℕ) (x : A) → slice_get xs i ≡ Some x → f x ≡ g x) → map f xs ≡ map g xs

@@ -1,5 +1,5 @@
 -- What one event makes of an actor, a file and a record.
-use Rattle.std.specs.Prelude.{◌≡◌, Bool, true, false, ◌&&◌, not, List, [], ◌∷◌, Option, Some, None, if◌then◌else◌}
+use Rattle.std.specs.Prelude.{◌≡◌, ℕ, zero, suc, Bool, true, false, ◌&&◌, not, List, [], ◌∷◌, Option, Some, None, if◌then◌else◌}
 use Rattle.std.specs.List.{list_any}
 use Rattle.tl_types.specs.Same.{actor_same, file_same, record_same}
 use Rattle.tl_types.specs.declared.actor.Actor.{Actor}
@@ -106,3 +106,11 @@ left_room act next = if accepts act then None else next
 abbrev pub added : Past → Act (Unit {0}) → List Record
 added past (Call command reply) = record_made reply command (names past)
 added past _ = []
+
+-- ---- lists
+
+-- the element at a place changes, where there is one
+abbrev pub changed_at : {A : Type 0} → ℕ → (A → A) → List A → List A
+changed_at n change [] = []
+changed_at zero change (x ∷ xs) = change x ∷ xs
+changed_at (suc n) change (x ∷ xs) = x ∷ changed_at n change xs

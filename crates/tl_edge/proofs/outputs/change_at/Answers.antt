@@ -1,6 +1,6 @@
 use Rattle.std.proofs.Common.{◌∙◌, ap, slice_set}
 use Rattle.tl_edge.specs.Data.{changed}
-use Rattle.tl_edge.proofs.Lists.{set_changed, unchanged_past}
+use Rattle.tl_steps.proofs.Lists.{set_changed, unchanged_past}
 use Rattle.tl_edge.proofs.outputs.change_at.Goals as goal
 
 pub returns-then-at-outputs : goal.returns-then-at-outputs

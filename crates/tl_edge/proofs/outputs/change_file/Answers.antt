@@ -1,6 +1,7 @@
 use Rattle.std.proofs.Common.{◌∙◌, ap, slice_set}
-use Rattle.tl_edge.specs.Data.{changed, changed_at}
-use Rattle.tl_edge.proofs.Lists.{set_changed, unchanged_past}
+use Rattle.tl_steps.specs.Steps.{changed_at}
+use Rattle.tl_edge.specs.Data.{changed}
+use Rattle.tl_steps.proofs.Lists.{set_changed, unchanged_past}
 use Rattle.tl_edge.proofs.outputs.change_file.Goals as goal
 
 pub returns-then-at-files : goal.returns-then-at-files

@@ -1,6 +1,7 @@
 use Rattle.std.proofs.Common.{◌∙◌, ap, slice_set}
-use Rattle.tl_plan.specs.Data.{awaited, changed_at}
-use Rattle.tl_plan.proofs.Lists.{set_changed, unchanged_past}
+use Rattle.tl_steps.specs.Steps.{changed_at}
+use Rattle.tl_plan.specs.Data.{awaited}
+use Rattle.tl_steps.proofs.Lists.{set_changed, unchanged_past}
 use Rattle.tl_plan.proofs.outputs.await_file.Goals as goal
 
 pub returns-then-at-files : goal.returns-then-at-files

@@ -1,5 +1,5 @@
 use Rattle.std.proofs.Common.{◌∙◌, ap, max, slice_set}
-use Rattle.tl_prio.proofs.Lists.{set_changed, unchanged_past}
+use Rattle.tl_steps.proofs.Lists.{set_changed, unchanged_past}
 use Rattle.tl_prio.proofs.waiting.raise_at.Goals as goal
 
 pub returns-then-at-waiting : goal.returns-then-at-waiting
