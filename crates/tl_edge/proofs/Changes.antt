@@ -13,16 +13,17 @@ use Rattle.tl_model.specs.declared.reply.Reply.{Reply}
 use Rattle.tl_model.specs.declared.reply.Reply.TheVariants.{Made}
 use Rattle.tl_model.specs.declared.record.Record.{Record}
 use Rattle.tl_model.specs.Past.{Past, Plain}
-use Rattle.tl_model.specs.History.{files_at, has_input, has_output, id_of, inputs_of, is_named, names, output_count, outputs_of, record_made, records}
+use Rattle.tl_model.specs.History.{files_at, has_input, id_of, inputs_of, is_named, names, output_count, outputs_of, record_made, records}
 use Rattle.tl_model.specs.Actors.{actors}
 use Rattle.tl_model.specs.Residency.{claim_reads, does, is_saved, is_use, place, reads, saved_as, was_done}
 use Rattle.tl_model.specs.Checkpoints.{is_leaf, last_done}
 use Rattle.tl_laws.specs.Numbers.{Numbered, get-within}
 use Rattle.tl_laws.specs.Made.{IsOutputOf}
 use Rattle.tl_laws.specs.Order.{HasOlderInputs, among-holds}
-use Rattle.tl_steps.specs.Steps.{UnnamesOnly, accepts, added, is_gone, next_of}
+use Rattle.tl_steps.specs.Steps.{UnnamesOnly, accepts, added, next_of}
 use Rattle.tl_steps.specs.Within.{IsWithin}
 use Rattle.tl_steps.proofs.Lists.{map_after, map_same}
+use Rattle.tl_steps.proofs.Named.{NoNewNames, named-same}
 use Rattle.tl_steps.proofs.Files.{after, each-file, is-output, new-number, not-true, not-yet, nowhere, place-same, saved-same}
 use Rattle.tl_edge.specs.declared.kept.Kept.{Kept}
 use Rattle.tl_edge.specs.declared.output.Output.{Output}
@@ -40,28 +41,6 @@ RoomFor next (r ∷ rs) = next ≡ Some (kept_of r)
 
 pub saves-after : (e : Plain) (past : Past) → map (save_next e) (map (save_of past) actors) ≡ map (save_of (e ∷ past)) actors
 saves-after e past = map_after (save_of past) (save_next e) actors
-
--- ---- names
-
-named-by : (was now : Bool) → (now ≡ true → was ≡ true) → (was && not (was && not now)) ≡ now
-named-by true true h = refl
-named-by true false h = refl
-named-by false true h = let never : false ≡ true = h refl in absurd (cc)
-named-by false false h = refl
-
--- a file of an older record gets no name
-abbrev pub NoNewNames : Past → Past → Type 0
-NoNewNames past now = (f : FileId) → f.rec.0 < length (records past) → is_named now f ≡ true → is_named past f ≡ true
-
-within-records : (rs : List Record) (f : FileId) (o : Option Record) → slice_get rs f.rec.0 ≡ o → has_output o f.out ≡ true → f.rec.0 < length rs
-within-records rs f None at is = absurd (cc)
-within-records rs f (Some r) at is = get-within rs f.rec.0 r at
-
-named-same : (past : Past) (e : Plain) (lost : Option FileId) (f : FileId) → UnnamesOnly past e lost → NoNewNames past (e ∷ past) → IsOutputOf (records past) f →
-    (is_named past f && not (is_gone lost f)) ≡ is_named (e ∷ past) f
-named-same past e lost f only older is =
-    ap (λ b. is_named past f && not b) (only f)
-    ∙ named-by (is_named past f) (is_named (e ∷ past) f) (older f (within-records (records past) f (slice_get (records past) f.rec.0) refl is))
 
 -- ---- leaves
 

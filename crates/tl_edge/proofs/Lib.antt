@@ -1,6 +1,5 @@
 pub mod Acting
 pub mod Changes
 pub mod Choosing
-pub mod Named
 pub mod Noting
 pub mod Rows

@@ -26,13 +26,13 @@ use Rattle.tl_steps.specs.Steps.{UnnamesOnly, added, next_of}
 use Rattle.tl_steps.specs.Within.{IsWithin}
 use Rattle.tl_steps.proofs.Files.{after}
 use Rattle.tl_steps.proofs.Lists.{map_append}
+use Rattle.tl_steps.proofs.Named.{NoNewNames, just-named, outputs-named}
 use Rattle.tl_steps.proofs.Within.{all-within}
 use Rattle.tl_edge.specs.declared.kept.Kept.{Kept}
 use Rattle.tl_edge.specs.declared.output.Output.{Output}
 use Rattle.tl_edge.specs.Data.{EdgeData, edge_after, files_after, new_save, next_number, save_next, taken_up, with_files, with_inputs}
 use Rattle.tl_edge.specs.Standing.{HasRoomForAll, StandsFor, files_in, kept_of, outputs_in}
-use Rattle.tl_edge.proofs.Named.{just-named, outputs-named}
-use Rattle.tl_edge.proofs.Changes.{NoNewNames, RoomFor, files-same, next-is, outputs-new, saves-after}
+use Rattle.tl_edge.proofs.Changes.{RoomFor, files-same, next-is, outputs-new, saves-after}
 
 -- the records and their files, once those are added that an event adds
 abbrev AddedTo : Past → Option Kept → List (List FileId) → List (List Output) → Type 0

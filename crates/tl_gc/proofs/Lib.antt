@@ -2,5 +2,4 @@ pub mod Choosing
 pub mod Collected
 pub mod Lists
 pub mod Marking
-pub mod Named
 pub mod Noting

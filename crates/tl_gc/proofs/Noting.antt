@@ -14,12 +14,12 @@ use Rattle.tl_model.specs.declared.event.Act.TheVariants.{Call, Collect, Saved}
 use Rattle.tl_model.specs.declared.record.Record.{Record}
 use Rattle.tl_model.specs.declared.record.Record.TheVariants as kind
 use Rattle.tl_model.specs.declared.event.Event.{Event}
-use Rattle.tl_model.specs.Past.{Past, Plain, act_with, event_with, without_tickets}
+use Rattle.tl_model.specs.Past.{Past, act_with, event_with, without_tickets}
 use Rattle.tl_model.specs.Rules.{all_permitted, lawful_judge}
-use Rattle.tl_model.specs.History.{files_at, has_output, id_of, inputs_of, is_named, names, output_count, outputs_of, record_made, records}
+use Rattle.tl_model.specs.History.{files_at, id_of, inputs_of, is_named, names, output_count, outputs_of, record_made, records}
 use Rattle.tl_model.specs.Actors.{actors}
 use Rattle.tl_model.specs.Residency.{collects, is_collected, is_saved, saved_as}
-use Rattle.tl_laws.specs.Numbers.{Numbered, get-within}
+use Rattle.tl_laws.specs.Numbers.{Numbered}
 use Rattle.tl_laws.specs.Made.{IsOutputOf}
 use Rattle.tl_needs.specs.Next.{event-next}
 use Rattle.tl_needs.specs.Sound.{past-numbered, permitted-before}
@@ -27,6 +27,7 @@ use Rattle.tl_steps.specs.Steps.{UnnamesOnly, added, changed_at, is_gone, new_se
 use Rattle.tl_steps.specs.Within.{IsWithin}
 use Rattle.tl_steps.proofs.Files.{after, each-file, is-output, new-number, not-true, not-yet, saved-same}
 use Rattle.tl_steps.proofs.Lists.{get_map, map_after, map_append, map_same}
+use Rattle.tl_steps.proofs.Named.{NoNewNames, just-named, named-same, outputs-named}
 use Rattle.tl_steps.proofs.Seats.{seats-after}
 use Rattle.tl_steps.proofs.Within.{all-within}
 use Rattle.tl_gc.specs.declared.kept.Kept.{Kept}
@@ -34,29 +35,6 @@ use Rattle.tl_gc.specs.Data.{GcData, gc_after, kept_after, maker_of, new_output,
 use Rattle.tl_gc.specs.Standing.{HasRoomForAll, StandsFor, kept_in, kept_of, output_of}
 use Rattle.tl_gc.proofs.Collected.{collected-within}
 use Rattle.tl_gc.proofs.Lists.{get-changed, get-changed-other, length-changed, length-map, map-at-each, same_or_not}
-use Rattle.tl_gc.proofs.Named.{just-named, outputs-named}
-
--- ---- names
-
-named-by : (was now : Bool) → (now ≡ true → was ≡ true) → (was && not (was && not now)) ≡ now
-named-by true true h = refl
-named-by true false h = refl
-named-by false true h = let never : false ≡ true = h refl in absurd (cc)
-named-by false false h = refl
-
--- a file of an older record gets no name
-abbrev NoNewNames : Past → Past → Type 0
-NoNewNames past now = (f : FileId) → f.rec.0 < length (records past) → is_named now f ≡ true → is_named past f ≡ true
-
-within-records : (rs : List Record) (f : FileId) (o : Option Record) → slice_get rs f.rec.0 ≡ o → has_output o f.out ≡ true → f.rec.0 < length rs
-within-records rs f None at is = absurd (cc)
-within-records rs f (Some r) at is = get-within rs f.rec.0 r at
-
-named-same : (past : Past) (e : Plain) (lost : Option FileId) (f : FileId) → UnnamesOnly past e lost → NoNewNames past (e ∷ past) → IsOutputOf (records past) f →
-    (is_named past f && not (is_gone lost f)) ≡ is_named (e ∷ past) f
-named-same past e lost f only older is =
-    ap (λ b. is_named past f && not b) (only f)
-    ∙ named-by (is_named past f) (is_named (e ∷ past) f) (older f (within-records (records past) f (slice_get (records past) f.rec.0) refl is))
 
 -- ---- the records that were there
 

@@ -1,4 +1,5 @@
 pub mod Files
 pub mod Lists
+pub mod Named
 pub mod Seats
 pub mod Within
