@@ -26,9 +26,10 @@ use Rattle.tl_model.specs.Residency.{SavedAs}
 use Rattle.tl_model.specs.History.{calls_of, records_of, record_at, outputs_of, files_from}
 use Rattle.tl_model.specs.Rules.{lawful_judge, all_permitted, is_lawful, is_quiet}
 use Rattle.tl_model.specs.Values.{Outcomes, no_outcome, outcome_in, outcomes_of, value}
-use Rattle.tl_laws.specs.Order.{HasOlderInputs, all-ordered, all-get}
-use Rattle.tl_laws.specs.Tickets.{records-with}
-use Rattle.tl_values.specs.Told.{job-at}
+use Rattle.tl_laws.specs.Order.{HasOlderInputs}
+use Rattle.tl_laws.proofs.Order.{all-ordered, all-get}
+use Rattle.tl_laws.proofs.Tickets.{records-with}
+use Rattle.tl_laws_values.proofs.Told.{job-at}
 use Rattle.tl_core.specs.declared.work.Feed.{Feed}
 use Rattle.tl_core.specs.declared.work.Feed.TheVariants.{Have, Kept}
 use Rattle.tl_core.specs.Answers.{IsSavedFor}

@@ -17,7 +17,7 @@ use Rattle.tl_model.specs.Residency.{is_available}
 use Rattle.tl_model.specs.Tables.{chosen}
 use Rattle.tl_model.specs.Plan.{next, tasks}
 use Rattle.tl_model.specs.Rules.{is_lawful}
-use Rattle.tl_progress.specs.Reads.{waiting-read-has-next, next-leaves-fewer}
+use Rattle.tl_laws_progress.proofs.OpenReads.{waiting-read-has-next, next-leaves-fewer}
 use Rattle.tl_core.specs.Called.{after_call}
 use Rattle.tl_core.specs.Answers.{past_of}
 use Rattle.tl_core.specs.State.{State}
@@ -50,16 +50,16 @@ no-next None e h = absurd (cc)
 no-next (Some made) e h = absurd (cc)
 
 -- a read that waits where nothing runs is never stuck
-pub never-stuck : (state : State (List ℕ)) (actor : Actor) (read : OpenRead) → is_lawful state.header state.events ≡ true → NothingRuns (past_of state) actor → actor.0 < 16 →
-    open_read (past_of state) actor ≡ Some read → is_available (past_of state) read.file ≡ false → next (past_of state) ≡ None → ⊥
-never-stuck state actor read lawful rest known is missing none =
-    let some : is_some (next (past_of state)) ≡ true =
-    waiting-read-has-next state.header state.events lawful (nothing-is-running (past_of state) actor rest) actor read known is missing in
-    no-next (next (past_of state)) none some
+pub never-stuck : (state : State (List ℕ)) (actor : Actor) (read : OpenRead) → is_lawful state.header state.events ≡ true → NothingRuns (past_of state) actor →
+    open_read (past_of state) actor ≡ Some read → is_available (past_of state) read.file ≡ false → next state.header.order (past_of state) ≡ None → ⊥
+never-stuck state actor read lawful rest is missing none =
+    let some : is_some (next state.header.order (past_of state)) ≡ true =
+    waiting-read-has-next state.header state.events lawful (nothing-is-running (past_of state) actor rest) actor read is missing in
+    no-next (next state.header.order (past_of state)) none some
 
 -- running what is next leaves fewer tasks
 pub fewer-tasks : (state : State (List ℕ)) (after : Events) (actor : Actor) (worker : WorkerId) (made : RecordId) → is_lawful state.header state.events ≡ true →
-    NothingRuns (past_of state) actor → next (past_of state) ≡ Some made → after ≡ with_run actor worker made state.events →
+    NothingRuns (past_of state) actor → next state.header.order (past_of state) ≡ Some made → after ≡ with_run actor worker made state.events →
     length (chosen (tasks (without_tickets after))) < length (chosen (tasks (past_of state)))
 fewer-tasks state after actor worker made lawful rest is ran =
     subst (λ (es : Events). length (chosen (tasks (without_tickets es))) < length (chosen (tasks (past_of state)))) (sym ran)

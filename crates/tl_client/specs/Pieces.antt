@@ -18,6 +18,7 @@ use Rattle.tl_model.specs.declared.reply.Reply.{Reply}
 use Rattle.tl_model.specs.declared.reply.Reply.TheVariants.{Opened}
 use Rattle.tl_model.specs.declared.event.Act.TheVariants.{Call, Served, Shut, Claim, Done, Load}
 use Rattle.tl_model.specs.declared.event.Event.{Event}
+use Rattle.tl_model.specs.declared.header.OrderRule.{OrderRule}
 use Rattle.tl_model.specs.Journal.{call_count}
 use Rattle.tl_model.specs.Past.{Told, events_with, without_tickets}
 use Rattle.tl_model.specs.History.{calls_of, reply_after}
@@ -70,35 +71,35 @@ abbrev pub with_run : {T : Type 0} → Actor → WorkerId → RecordId → List 
 with_run actor worker made events = record { actor = actor; act = Done worker made } ∷ record { actor = actor; act = Claim worker made } ∷ events
 
 -- the actor ran these records one after another, the last first, each where it was next and the file wasn't available
-abbrev pub Ran : {T : Type 0} → Actor → WorkerId → FileId → List RecordId → List (Event T) → List (Event T) → Type 0
-Ran actor worker f [] before after = after ≡ before
-Ran {T} actor worker f (made ∷ earlier) before after =
-    (between : List (Event T)) × Ran actor worker f earlier before between
-    × (is_available (without_tickets between) f ≡ false) × (next (without_tickets between) ≡ Some made) × (after ≡ with_run actor worker made between)
+abbrev pub Ran : {T : Type 0} → OrderRule → Actor → WorkerId → FileId → List RecordId → List (Event T) → List (Event T) → Type 0
+Ran order actor worker f [] before after = after ≡ before
+Ran {T} order actor worker f (made ∷ earlier) before after =
+    (between : List (Event T)) × Ran order actor worker f earlier before between
+    × (is_available (without_tickets between) f ≡ false) × (next order (without_tickets between) ≡ Some made) × (after ≡ with_run actor worker made between)
 
 -- one record was run, or none is next and nothing was done
-abbrev pub RanNext : Events → Events → Actor → WorkerId → Bool → Type 0
-RanNext before after actor worker true =
-    (made : RecordId) × (next (without_tickets before) ≡ Some made) × (after ≡ with_run actor worker made before)
-RanNext before after actor worker false = (next (without_tickets before) ≡ None) × (after ≡ before)
+abbrev pub RanNext : OrderRule → Events → Events → Actor → WorkerId → Bool → Type 0
+RanNext order before after actor worker true =
+    (made : RecordId) × (next order (without_tickets before) ≡ Some made) × (after ≡ with_run actor worker made before)
+RanNext order before after actor worker false = (next order (without_tickets before) ≡ None) × (after ≡ before)
 
 -- the actor ran these records one after another, the last first, each where it was next
-abbrev pub RanInTurn : {T : Type 0} → Actor → WorkerId → List RecordId → List (Event T) → List (Event T) → Type 0
-RanInTurn actor worker [] before after = after ≡ before
-RanInTurn {T} actor worker (made ∷ earlier) before after =
-    (between : List (Event T)) × RanInTurn actor worker earlier before between
-    × (next (without_tickets between) ≡ Some made) × (after ≡ with_run actor worker made between)
+abbrev pub RanInTurn : {T : Type 0} → OrderRule → Actor → WorkerId → List RecordId → List (Event T) → List (Event T) → Type 0
+RanInTurn order actor worker [] before after = after ≡ before
+RanInTurn {T} order actor worker (made ∷ earlier) before after =
+    (between : List (Event T)) × RanInTurn order actor worker earlier before between
+    × (next order (without_tickets between) ≡ Some made) × (after ≡ with_run actor worker made between)
 
 -- k records were run: n, or fewer and then none is next
-abbrev pub RanUpTo : Events → Events → Actor → WorkerId → ℕ → ℕ → Type 0
-RanUpTo before after actor worker n k =
-    (ran : List RecordId) × RanInTurn actor worker ran before after × (length ran ≡ k) × (k ≤ n)
-    × (k < n → next (without_tickets after) ≡ None)
+abbrev pub RanUpTo : OrderRule → Events → Events → Actor → WorkerId → ℕ → ℕ → Type 0
+RanUpTo order before after actor worker n k =
+    (ran : List RecordId) × RanInTurn order actor worker ran before after × (length ran ≡ k) × (k ≤ n)
+    × (k < n → next order (without_tickets after) ≡ None)
 
 -- the answer is how many were run, of n
-abbrev pub IsWorked : Events → Events → Actor → WorkerId → ℕ → Answer → Type 0
-IsWorked before after actor worker n (Count Work k) = RanUpTo before after actor worker n k
-IsWorked before after actor worker n _ = ⊥
+abbrev pub IsWorked : OrderRule → Events → Events → Actor → WorkerId → ℕ → Answer → Type 0
+IsWorked order before after actor worker n (Count Work k) = RanUpTo order before after actor worker n k
+IsWorked order before after actor worker n _ = ⊥
 
 -- ---- a read
 
@@ -117,22 +118,22 @@ pub record IsServedBy (before after : Events) (actor : Actor) (worker : WorkerId
   pub digest_is : digest.0 ≡ digest_of block.outcome
 
 -- from these events on, what is next was run until the file was available; then the read was served by its block
-pub record IsReadThrough (before after : Events) (actor : Actor) (worker : WorkerId) (f : FileId) (block : FileOutcome) : Type 0 where
+pub record IsReadThrough (order : OrderRule) (before after : Events) (actor : Actor) (worker : WorkerId) (f : FileId) (block : FileOutcome) : Type 0 where
   pub ran : List RecordId
   pub served_at : Events
-  pub runs : Ran actor worker f ran before served_at
+  pub runs : Ran order actor worker f ran before served_at
   pub served : IsServedBy served_at after actor worker f block
 
 -- the call of the read, and what came after it
-abbrev pub IsReadOf : Events → Events → Actor → WorkerId → Command (List ℕ) → FileId → Answer → Type 0
-IsReadOf before after actor worker command f (Read at block) =
-    (at ≡ call_count before) × IsReadThrough (call_event actor command (Opened f) ∷ before) after actor worker f block
-IsReadOf before after actor worker command f _ = ⊥
+abbrev pub IsReadOf : OrderRule → Events → Events → Actor → WorkerId → Command (List ℕ) → FileId → Answer → Type 0
+IsReadOf order before after actor worker command f (Read at block) =
+    (at ≡ call_count before) × IsReadThrough order (call_event actor command (Opened f) ∷ before) after actor worker f block
+IsReadOf order before after actor worker command f _ = ⊥
 
 -- a read that was answered so by the namespace
-abbrev pub IsRead : Events → Events → Actor → WorkerId → Command (List ℕ) → Reply → Answer → Type 0
-IsRead before after actor worker command (Opened f) answer = IsReadOf before after actor worker command f answer
-IsRead before after actor worker command _ answer = IsSaid before after actor command answer
+abbrev pub IsRead : OrderRule → Events → Events → Actor → WorkerId → Command (List ℕ) → Reply → Answer → Type 0
+IsRead order before after actor worker command (Opened f) answer = IsReadOf order before after actor worker command f answer
+IsRead order before after actor worker command _ answer = IsSaid before after actor command answer
 
 -- ---- a read that does not wait
 

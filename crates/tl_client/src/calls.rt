@@ -66,7 +66,6 @@ pub fn submit(
     requires rest { IsAtRest (past_of cluster.old) actor }
     requires inputs { core.program.inputs ≡ length inputs }
     requires outputs { core.program.outputs ≡ length outputs }
-    requires few { length outputs ≤ 255 }
     ensures ok { IfOk result (IsSaid cluster.old.events cluster.new.events actor (Job core prio inputs outputs)) }
     ensures rest { IsAtRest (past_of cluster.new) actor }
     ensures same { SameOpen (past_of cluster.old) (past_of cluster.new) }

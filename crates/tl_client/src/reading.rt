@@ -32,7 +32,7 @@ pub fn read(
     requires client { actor.0 < 8 }
     requires worker { worker.0 < cluster.old.header.workers }
     requires rest { IsAtRest (past_of cluster.old) actor }
-    ensures ok { IfOk result (IsRead cluster.old.events cluster.new.events actor worker (Read path.now prio form)
+    ensures ok { IfOk result (IsRead cluster.old.header.order cluster.old.events cluster.new.events actor worker (Read path.now prio form)
         (reply_after (calls_of cluster.old.events) (Read path.now prio form))) }
     ensures rest { IsAtRest (past_of cluster.new) actor }
     ensures same { SameOpen (past_of cluster.old) (past_of cluster.new) }
@@ -66,7 +66,7 @@ fn wait_for(
     requires worker { worker.0 < cluster.old.header.workers }
     requires reading { (read : OpenRead) × (open_read (past_of cluster.old) actor ≡ Some read) × (read.file ≡ file) }
     requires rest { NothingRuns (past_of cluster.old) actor }
-    ensures ok { IfOk result (IsReadThrough cluster.old.events cluster.new.events actor worker file) }
+    ensures ok { IfOk result (IsReadThrough cluster.old.header.order cluster.old.events cluster.new.events actor worker file) }
     ensures ends { ReadEnds (past_of cluster.old) (past_of cluster.new) actor }
     ensures saves { SameSaves (past_of cluster.old) (past_of cluster.new) }
     ensures rest { NothingRuns (past_of cluster.new) actor }
@@ -92,7 +92,7 @@ fn serve(
     requires worker { worker.0 < cluster.old.header.workers }
     requires reading { (read : OpenRead) × (open_read (past_of cluster.old) actor ≡ Some read) × (read.file ≡ file) }
     requires rest { NothingRuns (past_of cluster.old) actor }
-    ensures ok { IfOk result (IsReadThrough cluster.old.events cluster.new.events actor worker file) }
+    ensures ok { IfOk result (IsReadThrough cluster.old.header.order cluster.old.events cluster.new.events actor worker file) }
     ensures closed { OnOk result (ReadEnds (past_of cluster.old) (past_of cluster.new) actor) }
     ensures open { OnErr result (SameReads (past_of cluster.old) (past_of cluster.new)) }
     ensures saves { SameSaves (past_of cluster.old) (past_of cluster.new) }

@@ -30,7 +30,7 @@ pub fn work(
     requires actor { actor.0 < 16 }
     requires worker { worker.0 < cluster.old.header.workers }
     requires rest { IsAtRest (past_of cluster.old) actor }
-    ensures ok { IfOk result (IsWorked cluster.old.events cluster.new.events actor worker n) }
+    ensures ok { IfOk result (IsWorked cluster.old.header.order cluster.old.events cluster.new.events actor worker n) }
     ensures rest { IsAtRest (past_of cluster.new) actor }
     ensures same { SameOpen (past_of cluster.old) (past_of cluster.new) }
     ensures header { cluster.new.header ≡ cluster.old.header }
@@ -51,7 +51,7 @@ fn run_up_to(
     requires actor { actor.0 < 16 }
     requires worker { worker.0 < cluster.old.header.workers }
     requires rest { NothingRuns (past_of cluster.old) actor }
-    ensures ok { IfOk result (RanUpTo cluster.old.events cluster.new.events actor worker n) }
+    ensures ok { IfOk result (RanUpTo cluster.old.header.order cluster.old.events cluster.new.events actor worker n) }
     ensures header { cluster.new.header ≡ cluster.old.header }
     ensures rest { NothingRuns (past_of cluster.new) actor }
     ensures reads { SameReads (past_of cluster.old) (past_of cluster.new) }
@@ -79,7 +79,7 @@ pub fn run_next(
     requires actor { actor.0 < 16 }
     requires worker { worker.0 < cluster.old.header.workers }
     requires rest { NothingRuns (past_of cluster.old) actor }
-    ensures ok { IfOk result (RanNext cluster.old.events cluster.new.events actor worker) }
+    ensures ok { IfOk result (RanNext cluster.old.header.order cluster.old.events cluster.new.events actor worker) }
     ensures header { cluster.new.header ≡ cluster.old.header }
     ensures rest { NothingRuns (past_of cluster.new) actor }
     ensures reads { SameReads (past_of cluster.old) (past_of cluster.new) }

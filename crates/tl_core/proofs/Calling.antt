@@ -29,9 +29,9 @@ use Rattle.tl_model.specs.Replies.{reply_to, reply_same, entry_same, bool_same, 
 use Rattle.tl_model.specs.History.{HistoryOf, calls_of, names, names_of, records, records_of, record_made, files_at, with_call}
 use Rattle.tl_model.specs.Values.{Outcomes, outcomes_of, outcomes_made, value, no_outcome}
 use Rattle.tl_model.specs.Rules.{put_as}
-use Rattle.tl_laws.specs.Numbers.{get-left, get-within}
-use Rattle.tl_laws.specs.Refusals.{put_made as put-number, inputs-unrefused}
-use Rattle.tl_laws.specs.Paths.{inputs-found}
+use Rattle.tl_laws.proofs.Numbering.{get-left, get-within}
+use Rattle.tl_laws.proofs.Refusals.{put_made as put-number, inputs-unrefused}
+use Rattle.tl_laws.proofs.Paths.{inputs-found}
 use Rattle.tl_names.specs.Answers.{HasFewOutputs}
 use Rattle.tl_core.specs.State.{IsSound}
 use Rattle.tl_core.specs.Called.{IsFitting}
@@ -69,21 +69,7 @@ reply-same TooDeep = refl
 reply-same IntoItself = refl
 reply-same TooMany = refl
 
--- a fitting command has few outputs
-pub fitting-few : {T : Type 0} (command : Command T) → IsFitting command → HasFewOutputs command
-fitting-few (Put path len digest ticket) h = tt
-fitting-few (Job core prio inputs outputs) h = h.2
-fitting-few (Read path prio form) h = tt
-fitting-few (Delete path) h = tt
-fitting-few (Mkdir path) h = tt
-fitting-few (Rename from to) h = tt
-fitting-few (Pin path) h = tt
-fitting-few (Unpin path) h = tt
-fitting-few (list path) h = tt
-fitting-few (Stat path) h = tt
-fitting-few (free path) h = tt
-
--- the same without tickets
+-- a command that fits does so without its ticket too
 pub fitting-plain : {T U : Type 0} (g : T → U) (command : Command T) → IsFitting command → IsFitting (command_with g command)
 fitting-plain g (Put path len digest ticket) h = h
 fitting-plain g (Job core prio inputs outputs) h = h

@@ -29,10 +29,10 @@ use Rattle.tl_model.specs.History.{calls_of, names, names_of, records, records_o
 use Rattle.tl_model.specs.Actors.{OpenClaim, open_claim, open_save, is_idle, saves_file}
 use Rattle.tl_model.specs.Values.{outcomes_of, value, no_outcome}
 use Rattle.tl_model.specs.Rules.{Nothing, owed_after_call, is_permitted, lawful_judge, put_has_its_bytes, put_of, has_digest, has_size_and_digest, digest_is, size_of}
-use Rattle.tl_laws.specs.Permits.{holds-one, holds-two}
-use Rattle.tl_laws.specs.Numbers.{get-last, get-within}
-use Rattle.tl_laws.specs.Refusals.{put_made as put-number}
-use Rattle.tl_laws.specs.Tickets.{records-with, reply_after-with}
+use Rattle.tl_laws.proofs.Permits.{holds-one, holds-two, client-known}
+use Rattle.tl_laws.proofs.Numbering.{get-last, get-within}
+use Rattle.tl_laws.proofs.Refusals.{put_made as put-number}
+use Rattle.tl_laws.proofs.Tickets.{records-with, reply_after-with}
 use Rattle.tl_core.specs.Residents.{Residents}
 use Rattle.tl_core.specs.Puts.{KeptPut, kept_put, kept_by, as_saved, IsWhole}
 use Rattle.tl_core.specs.Room.{under_way}
@@ -119,8 +119,8 @@ called_plain tells content header events residents spare room actor command repl
     let e : Event _ = record { actor = actor; act = Call command reply } in
     let told_e : Event (List ℕ) = record { actor = actor; act = Call (command_with content command) reply } in
     record {
-      lawful = holds-one lawful_judge header events e s.lawful (permitted header events actor command reply is client idle) owes;
-      told = λ tell. holds-one (undropped_judge header) header (events_with content events) told_e (s.told tell)
+      lawful = holds-one lawful_judge header events e s.lawful (client-known actor client) (permitted header events actor command reply is client idle) owes;
+      told = λ tell. holds-one (undropped_judge header) header (events_with content events) told_e (s.told tell) (client-known actor client)
           (told_permitted content header events actor command reply is client idle (bytes tell)) told_owes;
       places = s.places;
       blocks = blocks-stay tells content header events residents spare room actor command reply s is;
@@ -221,7 +221,7 @@ called_put tells content header events residents spare room actor path len diges
     ap (λ (o : Option (ℕ × Digest)). has_size_and_digest o len digest) (if-true (file_same f f) (Some (len, digest)) (put_of events f) it)
     ∙ and_from _ _ ((Decides-eqb len len).1 refl) ((digest_same-Decides digest digest).1 refl) in
     record {
-      lawful = holds-two lawful_judge header events e next s.lawful (permitted header events actor command (Made made) is client idle) pay
+      lawful = holds-two lawful_judge header events e next s.lawful (client-known actor client) (permitted header events actor command (Made made) is client idle) pay (client-known actor client)
           (and_from _ _ (or-true (saves_file f (open_save (without_tickets (e ∷ events)) actor)) _ pay) lawful_saves) refl;
       told = λ tell.
           let told = events_with content events in
@@ -230,7 +230,8 @@ called_put tells content header events residents spare room actor path len diges
           let size : (size_of (told_e ∷ told) f == len) ≡ true =
           (Decides-eqb (size_of (told_e ∷ told) f) len).1 (ap outcome_size val ∙ sym ((Decides-eqb len (length (content ticket))).0 parts.0)) in
           let digests : digest_is (value (told_e ∷ told) f) digest ≡ true = ap (λ (o : Outcome). digest_is o digest) val ∙ parts.1 in
-          holds-two (undropped_judge header) header told told_e told_next (s.told tell) (told_permitted content header events actor command (Made made) is client idle (bytes tell)) pay
+          holds-two (undropped_judge header) header told told_e told_next (s.told tell) (client-known actor client)
+          (told_permitted content header events actor command (Made made) is client idle (bytes tell)) pay (client-known actor client)
           (and_from _ _ (or-true (saves_file f (open_save (without_tickets (told_e ∷ told)) actor)) _ pay) (and_from _ _ size digests)) refl;
       places = s.places;
       blocks = blocks-stay tells content header events residents spare room actor command (Made made) s is;

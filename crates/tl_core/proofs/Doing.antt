@@ -22,9 +22,10 @@ use Rattle.tl_model.specs.Actors.{OpenClaim, open_claim}
 use Rattle.tl_model.specs.Residency.{place, place_after}
 use Rattle.tl_model.specs.Values.{value}
 use Rattle.tl_model.specs.Rules.{lawful_judge, is_open_on, has_digest, all_permitted, is_quiet}
-use Rattle.tl_laws.specs.Permits.{holds-one}
-use Rattle.tl_laws.specs.Numbers.{Numbered, all-numbered, get-within}
-use Rattle.tl_laws.specs.Tickets.{records-with}
+use Rattle.tl_laws.proofs.Permits.{holds-one, actor-known}
+use Rattle.tl_laws.specs.Numbers.{Numbered}
+use Rattle.tl_laws.proofs.Numbering.{all-numbered, get-within}
+use Rattle.tl_laws.proofs.Tickets.{records-with}
 use Rattle.tl_core.specs.declared.resident.Resident.{Resident}
 use Rattle.tl_core.specs.Residents.{Residents, found, held, worker_of, block_of}
 use Rattle.tl_core.specs.Brought.{with_blocks}
@@ -191,8 +192,8 @@ done tells content header events residents spare actor worker made blocks s is k
     let one_less : under_way (record { actor = actor; act = Done worker made } ∷ past) + 1 ≤ under_way past =
     claim-ended past actor (Done worker made) claim is known (λ a. refl) in
     record {
-      lawful = holds-one lawful_judge header events (record { actor = actor; act = Done worker made }) s.lawful own refl;
-      told = λ tell. holds-one (undropped_judge header) header (events_with content events) (record { actor = actor; act = Done worker made }) (s.told tell) told_own refl;
+      lawful = holds-one lawful_judge header events (record { actor = actor; act = Done worker made }) s.lawful (actor-known actor known) own refl;
+      told = λ tell. holds-one (undropped_judge header) header (events_with content events) (record { actor = actor; act = Done worker made }) (s.told tell) (actor-known actor known) told_own refl;
       places = λ f. ap (option_map worker_of) (found-with_blocks f worker blocks residents)
           ∙ place-done past worker made f (place past f) (found f residents) (first_block f blocks) (s.places f) (first-output past f made blocks outputs numbers);
       blocks = all-with_blocks (IsHeld tells content (record { actor = actor; act = Done worker made } ∷ events)) worker blocks residents

@@ -21,9 +21,9 @@ use Rattle.tl_model.specs.History.{calls_of, names, names_of, records, record_ma
 use Rattle.tl_model.specs.Actors.{is_idle, open_claim}
 use Rattle.tl_model.specs.Residency.{place, is_resident}
 use Rattle.tl_model.specs.Rules.{Owed, Nothing, ToFree, owed_after_call, owed_free, pays, is_file, ok_file, lawful_judge, put_has_its_bytes}
-use Rattle.tl_laws.specs.Permits.{holds-two}
-use Rattle.tl_laws.specs.Numbers.{get-within}
-use Rattle.tl_laws.specs.Tickets.{names-with}
+use Rattle.tl_laws.proofs.Permits.{holds-two, client-known}
+use Rattle.tl_laws.proofs.Numbering.{get-within}
+use Rattle.tl_laws.proofs.Tickets.{names-with}
 use Rattle.tl_core.specs.declared.resident.Resident.{Resident}
 use Rattle.tl_core.specs.Puts.{KeptPut, kept_by}
 use Rattle.tl_core.specs.Residents.{Residents, file_held, found, worker_of, is_other, without_file}
@@ -159,12 +159,12 @@ freed-file {T} tells content header events residents spare room actor path f s i
     subst (λ (p : Past). walk_to_file (names p) path ≡ Ok f) (sym (plain-told content events)) names_it in
     let told_here : is_resident (without_tickets told) f ≡ true = subst (λ (p : Past). is_resident p f ≡ true) (sym (plain-told content events)) here in
     record {
-      lawful = holds-two lawful_judge header events e next s.lawful (permitted header events actor command Fine is client idle)
-          (ap (λ o. pays {T = T} o actor (Free f)) (owes-free past actor path f names_it here) ∙ and_from _ _ me it)
+      lawful = holds-two lawful_judge header events e next s.lawful (client-known actor client) (permitted header events actor command Fine is client idle)
+          (ap (λ o. pays {T = T} o actor (Free f)) (owes-free past actor path f names_it here) ∙ and_from _ _ me it) (client-known actor client)
           (and_from _ _ (and_from _ _ me (ap (λ w. is_file (ok_file w) f) names_it ∙ it)) here) refl;
-      told = λ tell. holds-two (undropped_judge header) header told told_e told_next (s.told tell)
+      told = λ tell. holds-two (undropped_judge header) header told told_e told_next (s.told tell) (client-known actor client)
           (told_permitted content header events actor command Fine is client idle refl)
-          (ap (λ o. pays {T = List ℕ} o actor (Free f)) (owes-free (without_tickets told) actor path f told_names told_here) ∙ and_from _ _ me it)
+          (ap (λ o. pays {T = List ℕ} o actor (Free f)) (owes-free (without_tickets told) actor path f told_names told_here) ∙ and_from _ _ me it) (client-known actor client)
           (and_from _ _ (and_from _ _ me (ap (λ w. is_file (ok_file w) f) told_names ∙ it)) told_here) refl;
       places = λ g. ap (option_map worker_of) (found-other f g residents) ∙ maps_either worker_of (file_same g f) (found g residents)
           ∙ ap (λ (w : Option WorkerId). if file_same g f then None else w) (s.places g);

@@ -21,11 +21,11 @@ use Rattle.tl_types.specs.Same.{digest_same-Decides}
 use Rattle.tl_types.specs.declared.worker_id.WorkerId.{WorkerId}
 use Rattle.tl_model.specs.declared.event.Act.TheVariants.{Load}
 use Rattle.tl_model.specs.Residency.{SavedAs, saved_as, is_saved}
-use Rattle.tl_laws.specs.Permits.{holds-two}
+use Rattle.tl_laws.proofs.Permits.{holds-two, actor-known}
 use Rattle.tl_core.specs.declared.resident.Resident.{Resident}
 use Rattle.tl_model.specs.declared.record.Record.TheVariants as kind
 use Rattle.tl_model.specs.History.{records}
-use Rattle.tl_laws.specs.Numbers.{get-within}
+use Rattle.tl_laws.proofs.Numbering.{get-within}
 use Rattle.tl_core.specs.Residents.{Residents, is_of, found, place_in, worker_of}
 use Rattle.tl_core.specs.Puts.{KeptPut, kept_put, as_saved}
 use Rattle.tl_core.specs.Done.{or_else}
@@ -91,13 +91,13 @@ loads-at past g f worker w false e is at = at
 
 pub brought : {T : Type 0} (tells : Bool) (content : T → List ℕ) (header : Header) (events : List (Event T)) (residents : Residents) (spare room : ℕ)
     (actor : Actor) (worker : WorkerId) (block : FileOutcome) (digest : Digest) (read : OpenRead) →
-    Stands tells content header events residents spare → open_read (without_tickets events) actor ≡ Some read → block.file ≡ read.file → worker.0 < header.workers →
+    Stands tells content header events residents spare → open_read (without_tickets events) actor ≡ Some read → block.file ≡ read.file → actor.0 < 16 → worker.0 < header.workers →
     found block.file residents ≡ None →
     saved_as (without_tickets events) block.file ≡ Some (record { size = outcome_size block.outcome; digest = record { 0 = digest_of block.outcome } }) →
     (tells ≡ true → block.outcome ≡ value (events_with content events) block.file) → digest.0 ≡ digest_of block.outcome → 48 ≤ room →
     Stands tells content header (record { actor = actor; act = Served block.file digest } ∷ record { actor = actor; act = Load worker block.file } ∷ events)
     (residents ++ record { worker = worker; block = block } ∷ []) room
-brought tells content header events residents spare room actor worker block digest read s is file_is known gone saved val digests enough =
+brought tells content header events residents spare room actor worker block digest read s is file_is there known gone saved val digests enough =
     let past : Past = without_tickets events in
     let f : FileId = block.file in
     let known_as : SavedAs = record { size = outcome_size block.outcome; digest = record { 0 = digest_of block.outcome } } in
@@ -119,16 +119,16 @@ brought tells content header events residents spare room actor worker block dige
     let facts : IsLoading past actor f = record { reading = reads; store = is_in_store; away = away } in
     let told_facts : IsLoading (without_tickets (events_with content events)) actor f = subst (λ (p : Past). IsLoading p actor f) (sym (plain-told content events)) facts in
     record {
-      lawful = holds-two lawful_judge header events load serve s.lawful
-          (and_from _ _ (and_from _ _ (and_from _ _ at_worker facts.reading) facts.store) facts.away) pay
+      lawful = holds-two lawful_judge header events load serve s.lawful (actor-known actor there)
+          (and_from _ _ (and_from _ _ (and_from _ _ at_worker facts.reading) facts.store) facts.away) pay (actor-known actor there)
           (and_from _ _ (and_from _ _ (ap (reads_file f) (same_either (actor_same actor actor) (open_read past actor)) ∙ facts.reading)
           (ap is_some (if-true (file_same f f) (Some worker) (place past f) self))) fits_digest) refl;
       told = λ tell.
           let told = events_with content events in
           let same : bytes_eq (digest_of (value told f)) digest.0 ≡ true =
           (bytes_eq-Decides (digest_of (value told f)) digest.0).1 (ap digest_of (sym (val tell)) ∙ sym digests) in
-          holds-two (undropped_judge header) header told told_load told_serve (s.told tell)
-          (and_from _ _ (and_from _ _ (and_from _ _ at_worker told_facts.reading) told_facts.store) told_facts.away) pay
+          holds-two (undropped_judge header) header told told_load told_serve (s.told tell) (actor-known actor there)
+          (and_from _ _ (and_from _ _ (and_from _ _ at_worker told_facts.reading) told_facts.store) told_facts.away) pay (actor-known actor there)
           (and_from _ _ (and_from _ _ (ap (reads_file f) (same_either (actor_same actor actor) (open_read (without_tickets told) actor)) ∙ told_facts.reading)
           (ap is_some (if-true (file_same f f) (Some worker) (place (without_tickets told) f) self))) same) refl;
       places = λ g. found-more f residents (record { worker = worker; block = block }) g refl gone (file_same g f) refl

@@ -13,7 +13,7 @@ use Rattle.tl_model.specs.Past.{Past, events_with, without_tickets}
 use Rattle.tl_model.specs.Actors.{open_claim, is_on}
 use Rattle.tl_model.specs.Residency.{place, is_at, is_resident_on}
 use Rattle.tl_model.specs.Rules.{lawful_judge}
-use Rattle.tl_laws.specs.Permits.{holds-one}
+use Rattle.tl_laws.proofs.Permits.{holds-one, actor-known}
 use Rattle.tl_core.specs.declared.resident.Resident.{Resident}
 use Rattle.tl_core.specs.Residents.{Residents, found, held, worker_of, block_of, is_elsewhere}
 use Rattle.tl_core.specs.Room.{under_way}
@@ -49,13 +49,13 @@ elsewhere-stays worker here r false e is stays =
     ap (λ (w : Option WorkerId). if is_at worker w then None else w) is ∙ ap (λ b. if b then None else Some r.worker) e
 
 pub lost : {T : Type 0} (tells : Bool) (content : T → List ℕ) (header : Header) (events : List (Event T)) (residents : Residents) (spare room : ℕ)
-    (actor : Actor) (worker : WorkerId) → Stands tells content header events residents spare → worker.0 < header.workers → 51 ≤ room →
+    (actor : Actor) (worker : WorkerId) → Stands tells content header events residents spare → actor.0 < 16 → worker.0 < header.workers → 51 ≤ room →
     Stands tells content header (record { actor = actor; act = Lose worker } ∷ events) (filter (is_elsewhere worker) residents) (room - 1)
-lost tells content header events residents spare room actor worker s known enough =
+lost tells content header events residents spare room actor worker s there known enough =
     let past : Past = without_tickets events in
     record {
-      lawful = holds-one lawful_judge header events (record { actor = actor; act = Lose worker }) s.lawful (lt-ltb worker.0 header.workers known) refl;
-      told = λ tell. holds-one (undropped_judge header) header (events_with content events) (record { actor = actor; act = Lose worker }) (s.told tell)
+      lawful = holds-one lawful_judge header events (record { actor = actor; act = Lose worker }) s.lawful (actor-known actor there) (lt-ltb worker.0 header.workers known) refl;
+      told = λ tell. holds-one (undropped_judge header) header (events_with content events) (record { actor = actor; act = Lose worker }) (s.told tell) (actor-known actor there)
           (lt-ltb worker.0 header.workers known) refl;
       places = λ f.
           ap (option_map worker_of) (found-lost tells content events residents worker f s.blocks)

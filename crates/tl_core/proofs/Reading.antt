@@ -16,7 +16,7 @@ use Rattle.tl_model.specs.Values.{value}
 use Rattle.tl_model.specs.Actors.{OpenRead, open_read, open_claim, open_save, reads_file}
 use Rattle.tl_model.specs.Residency.{is_resident}
 use Rattle.tl_model.specs.Rules.{lawful_judge, has_digest, put_of}
-use Rattle.tl_laws.specs.Permits.{holds-one}
+use Rattle.tl_laws.proofs.Permits.{holds-one, actor-known}
 use Rattle.tl_core.specs.declared.resident.Resident.{Resident}
 use Rattle.tl_core.specs.Residents.{Residents, found}
 use Rattle.tl_core.specs.Room.{one_if_some, under_way_of, under_way}
@@ -66,13 +66,13 @@ served tells content header events residents spare actor digest read it s is her
     let one_less : under_way (record { actor = actor; act = Served read.file digest } ∷ past) + 1 ≤ under_way past =
     ended past actor (Served read.file digest) read is known (λ a. refl) in
     record {
-      lawful = holds-one lawful_judge header events (record { actor = actor; act = Served read.file digest }) s.lawful
+      lawful = holds-one lawful_judge header events (record { actor = actor; act = Served read.file digest }) s.lawful (actor-known actor known)
           (and_from _ _ (and_from _ _ reading.reading reading.resident) digest_here) refl;
       told = λ tell.
           let same : bytes_eq (digest_of (value (events_with content events) read.file)) digest.0 ≡ true =
           (bytes_eq-Decides (digest_of (value (events_with content events) read.file)) digest.0).1
           (ap (λ (f : FileId). digest_of (value (events_with content events) f)) (sym known_of.1) ∙ ap digest_of (sym (fits.2 tell)) ∙ sym digests) in
-          holds-one (undropped_judge header) header (events_with content events) (record { actor = actor; act = Served read.file digest }) (s.told tell)
+          holds-one (undropped_judge header) header (events_with content events) (record { actor = actor; act = Served read.file digest }) (s.told tell) (actor-known actor known)
           (and_from _ _ (and_from _ _ told_reading.reading told_reading.resident) same) refl;
       places = s.places;
       blocks = s.blocks;
@@ -97,8 +97,8 @@ shut tells content header events residents spare actor read s is known =
     let one_less : under_way (record { actor = actor; act = Shut read.file } ∷ past) + 1 ≤ under_way past =
     ended past actor (Shut read.file) read is known (λ a. refl) in
     record {
-      lawful = holds-one lawful_judge header events (record { actor = actor; act = Shut read.file }) s.lawful reading refl;
-      told = λ tell. holds-one (undropped_judge header) header (events_with content events) (record { actor = actor; act = Shut read.file }) (s.told tell) told_reading refl;
+      lawful = holds-one lawful_judge header events (record { actor = actor; act = Shut read.file }) s.lawful (actor-known actor known) reading refl;
+      told = λ tell. holds-one (undropped_judge header) header (events_with content events) (record { actor = actor; act = Shut read.file }) (s.told tell) (actor-known actor known) told_reading refl;
       places = s.places;
       blocks = s.blocks;
       sound = s.sound;

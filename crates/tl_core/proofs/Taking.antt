@@ -1,5 +1,5 @@
 -- What stands for the inputs of the record that is next.
-use Rattle.std.proofs.Common.{◌≡◌, ℕ, zero, suc, ◌-◌, ◌<◌, ◌≤◌, Bool, true, false, ◌&&◌, ◌||◌, if◌then◌else◌, List, [], ◌∷◌, ◌++◌, length, slice_get, Option, Some, None, is_some, option_map, refl, sym, ap, ◌∙◌, subst, arith}
+use Rattle.std.proofs.Common.{◌≡◌, Bor, ℕ, zero, suc, ◌-◌, ◌<◌, ◌≤◌, Bool, true, false, ◌&&◌, ◌||◌, if◌then◌else◌, List, [], ◌∷◌, ◌++◌, length, slice_get, Option, Some, None, is_some, option_map, refl, sym, ap, ◌∙◌, subst, arith}
 use Rattle.std.specs.List.{AllByRecursion, list_all}
 use Rattle.std.proofs.lemmas.Bool.{and_from, and_parts, lt-ltb}
 use Rattle.tl_types.specs.Same.{actor_same, record_same-Decides, file_same, file_same-Decides}
@@ -18,13 +18,17 @@ use Rattle.tl_model.specs.declared.header.Header.{Header}
 use Rattle.tl_model.specs.declared.record.Record.{Record}
 use Rattle.tl_model.specs.declared.record.Record.TheVariants as kind
 use Rattle.tl_model.specs.Past.{Past, events_with, without_tickets}
-use Rattle.tl_model.specs.History.{records, record_at}
+use Rattle.tl_model.specs.History.{id_of, inputs_of, is_job, records, record_at}
 use Rattle.tl_model.specs.Actors.{OpenClaim, open_claim}
-use Rattle.tl_model.specs.Residency.{is_resident, is_available, all_available}
+use Rattle.tl_model.specs.Residency.{is_kept, is_resident, is_available, all_available}
 use Rattle.tl_model.specs.Plan.{next}
-use Rattle.tl_model.specs.Rules.{lawful_judge, may_claim, is_record}
-use Rattle.tl_laws.specs.Permits.{holds-one}
-use Rattle.tl_laws.specs.Next.{next-is}
+use Rattle.tl_model.specs.Rules.{all_permitted, is_lawful, is_quiet, lawful_judge, may_claim, is_record}
+use Rattle.tl_laws.proofs.Permits.{holds-one, actor-known}
+use Rattle.tl_laws.proofs.Next.{next-is}
+use Rattle.tl_laws.proofs.Numbering.{all-numbered}
+use Rattle.tl_laws_needs.proofs.Later.{next-is-kept}
+use Rattle.std.specs.Option.{option_copied}
+use Rattle.tl_laws.proofs.Tickets.{records-with}
 use Rattle.tl_laws.specs.Numbers.{Numbered}
 use Rattle.tl_core.specs.declared.resident.Resident.{Resident}
 use Rattle.tl_core.specs.declared.work.Feed.{Feed}
@@ -41,60 +45,43 @@ use Rattle.tl_core.proofs.Told.{plain-told}
 use Rattle.tl_core.proofs.Count.{under_way-few}
 use Rattle.tl_core.proofs.Looking.{resident-found, saved_by}
 
--- ---- a put's file is its output 0
+-- ---- lawful journals
 
-kept-if : {T : Type 0} (f : FileId) (made : RecordId) (put : KeptPut T) (before : Option (KeptPut T)) (b : Bool) (it : KeptPut T) → file_same f (record { rec = made; out = 0 }) ≡ b →
-    (if b then Some put else before) ≡ Some it → (before ≡ Some it → f.out ≡ 0) → f.out ≡ 0
-kept-if f made put before true it e is h = ap (λ (g : FileId). g.out) ((file_same-Decides f (record { rec = made; out = 0 })).0 e)
-kept-if f made put before false it e is h = h is
+pub permitted : {T : Type 0} (header : Header) (events : List (Event T)) → is_lawful header events ≡ true → all_permitted lawful_judge header events ≡ true
+permitted header events lawful = (and_parts (all_permitted lawful_judge header events) (is_quiet lawful_judge events) lawful).0
 
-kept-by-out : {T : Type 0} (reply : Reply) (command : Command T) (f : FileId) (before : Option (KeptPut T)) (it : KeptPut T) →
-    kept_by reply command f before ≡ Some it → (before ≡ Some it → f.out ≡ 0) → f.out ≡ 0
-kept-by-out (Made made) (Put path len digest ticket) f before it is h =
-    kept-if f made (record { ticket = ticket; len = len; digest = digest }) before (file_same f (record { rec = made; out = 0 })) it refl is h
-kept-by-out (Made made) (Job core prio inputs outputs) f before it is h = h is
-kept-by-out (Made made) (Read path prio form) f before it is h = h is
-kept-by-out (Made made) (Delete path) f before it is h = h is
-kept-by-out (Made made) (Mkdir path) f before it is h = h is
-kept-by-out (Made made) (Rename from to) f before it is h = h is
-kept-by-out (Made made) (Pin path) f before it is h = h is
-kept-by-out (Made made) (Unpin path) f before it is h = h is
-kept-by-out (Made made) (list path) f before it is h = h is
-kept-by-out (Made made) (Stat path) f before it is h = h is
-kept-by-out (Made made) (free path) f before it is h = h is
-kept-by-out Fine command f before it is h = h is
-kept-by-out (Opened g) command f before it is h = h is
-kept-by-out (Listed entries) command f before it is h = h is
-kept-by-out (Stated status) command f before it is h = h is
-kept-by-out Exists command f before it is h = h is
-kept-by-out NoSuch command f before it is h = h is
-kept-by-out NotFile command f before it is h = h is
-kept-by-out NotDir command f before it is h = h is
-kept-by-out NotEmpty command f before it is h = h is
-kept-by-out TooDeep command f before it is h = h is
-kept-by-out IntoItself command f before it is h = h is
-kept-by-out TooMany command f before it is h = h is
+pub lawful-numbered : {T : Type 0} (header : Header) (events : List (Event T)) → is_lawful header events ≡ true → Numbered (records (without_tickets events))
+lawful-numbered header events lawful =
+    subst Numbered (sym (records-with (λ _. tt) events)) (all-numbered lawful_judge header events (permitted header events lawful))
 
-kept-after-out : {T : Type 0} (act : Act T) (f : FileId) (before : Option (KeptPut T)) (it : KeptPut T) →
-    kept_after act f before ≡ Some it → (before ≡ Some it → f.out ≡ 0) → f.out ≡ 0
-kept-after-out (Call command reply) f before it is h = kept-by-out reply command f before it is h
-kept-after-out (Served file digest) f before it is h = h is
-kept-after-out (Shut file) f before it is h = h is
-kept-after-out (Claim worker made) f before it is h = h is
-kept-after-out (Done worker made) f before it is h = h is
-kept-after-out (Back made) f before it is h = h is
-kept-after-out (Lose worker) f before it is h = h is
-kept-after-out (Free file) f before it is h = h is
-kept-after-out (Drop worker file) f before it is h = h is
-kept-after-out (Load worker file) f before it is h = h is
-kept-after-out (Save file) f before it is h = h is
-kept-after-out (Saved file size digest) f before it is h = h is
-kept-after-out (Unsave file) f before it is h = h is
-kept-after-out (Collect made) f before it is h = h is
+-- what is known of the record that is next, and that the ledger finds it
+pub record IsNextRecord {T : Type 0} (header : Header) (events : List (Event T)) (made : RecordId) : Type 0 where
+  pub it : Record
+  pub at : record_at (without_tickets events) made ≡ Some it
+  pub id : id_of it ≡ made
+  pub job : is_job it ≡ true
+  pub fed : all_available (without_tickets events) (inputs_of it) ≡ true
+  pub found : (answer : Option (Bor Record)) → (all_permitted lawful_judge header events ≡ true →
+      option_copied answer ≡ (if is_kept (without_tickets events) made then record_at (without_tickets events) made else None)) → option_copied answer ≡ Some it
 
-pub kept-out : {T : Type 0} (events : List (Event T)) (f : FileId) (it : KeptPut T) → kept_put events f ≡ Some it → f.out ≡ 0
-kept-out [] f it is = absurd (cc)
-kept-out (e ∷ events) f it is = kept-after-out e.act f (kept_put events f) it is (kept-out events f it)
+kept-found : (b : Bool) (o : Option Record) (it : Record) → b ≡ true → o ≡ Some it → (if b then o else None) ≡ Some it
+kept-found true o it b is = is
+kept-found false o it b is = absurd (cc)
+
+pub next-record : {T : Type 0} (header : Header) (events : List (Event T)) (made : RecordId) → is_lawful header events ≡ true →
+    next header.order (without_tickets events) ≡ Some made → IsNextRecord header events made
+next-record header events made lawful is =
+    let past : Past = without_tickets events in
+    let it = next-is header.order past made is (lawful-numbered header events lawful) in
+    let kept = next-is-kept lawful_judge header events (permitted header events lawful) made is in
+    record {
+      it = it.it;
+      at = it.at;
+      id = it.id;
+      job = it.job;
+      fed = it.fed;
+      found = λ answer said. said (permitted header events lawful) ∙ kept-found (is_kept past made) (record_at past made) it.it kept it.at;
+    }
 
 -- ---- feeds
 
@@ -137,20 +124,20 @@ open-after false mine o claim past is own other = other is
 
 pub claimed : {T : Type 0} (tells : Bool) (content : T → List ℕ) (header : Header) (events : List (Event T)) (residents : Residents) (spare room : ℕ)
     (actor : Actor) (worker : WorkerId) (made : RecordId) → Stands tells content header events residents spare → Numbered (records (without_tickets events)) →
-    worker.0 < header.workers → may_claim (without_tickets events) actor ≡ true → next (without_tickets events) ≡ Some made → 51 ≤ room →
+    actor.0 < 16 → worker.0 < header.workers → may_claim (without_tickets events) actor ≡ true → next header.order (without_tickets events) ≡ Some made → 51 ≤ room →
     Stands tells content header (record { actor = actor; act = Claim worker made } ∷ events) residents (room - 1)
-claimed tells content header events residents spare room actor worker made s n known idle is enough =
+claimed tells content header events residents spare room actor worker made s n there known idle is enough =
     let past : Past = without_tickets events in
-    let it = next-is past made is n in
-    let fits : is_record (next past) made ≡ true = ap (λ o. is_record o made) is ∙ (record_same-Decides made made).1 refl in
-    let may : (may_claim past actor && is_record (next past) made) ≡ true = and_from _ _ idle fits in
-    let told_may : (may_claim (without_tickets (events_with content events)) actor && is_record (next (without_tickets (events_with content events))) made) ≡ true =
-    subst (λ (p : Past). (may_claim p actor && is_record (next p) made) ≡ true) (sym (plain-told content events)) may in
-    let told_parts = and_parts (may_claim (without_tickets (events_with content events)) actor) (is_record (next (without_tickets (events_with content events))) made) told_may in
+    let it = next-is header.order past made is n in
+    let fits : is_record (next header.order past) made ≡ true = ap (λ o. is_record o made) is ∙ (record_same-Decides made made).1 refl in
+    let may : (may_claim past actor && is_record (next header.order past) made) ≡ true = and_from _ _ idle fits in
+    let told_may : (may_claim (without_tickets (events_with content events)) actor && is_record (next header.order (without_tickets (events_with content events))) made) ≡ true =
+    subst (λ (p : Past). (may_claim p actor && is_record (next header.order p) made) ≡ true) (sym (plain-told content events)) may in
+    let told_parts = and_parts (may_claim (without_tickets (events_with content events)) actor) (is_record (next header.order (without_tickets (events_with content events))) made) told_may in
     let at_worker = lt-ltb worker.0 header.workers known in
     record {
-      lawful = holds-one lawful_judge header events (record { actor = actor; act = Claim worker made }) s.lawful (and_from _ _ (and_from _ _ at_worker idle) fits) refl;
-      told = λ tell. holds-one (undropped_judge header) header (events_with content events) (record { actor = actor; act = Claim worker made }) (s.told tell)
+      lawful = holds-one lawful_judge header events (record { actor = actor; act = Claim worker made }) s.lawful (actor-known actor there) (and_from _ _ (and_from _ _ at_worker idle) fits) refl;
+      told = λ tell. holds-one (undropped_judge header) header (events_with content events) (record { actor = actor; act = Claim worker made }) (s.told tell) (actor-known actor there)
           (and_from _ _ (and_from _ _ at_worker told_parts.0) told_parts.1) refl;
       places = s.places;
       blocks = s.blocks;
@@ -195,7 +182,7 @@ pub claimed-work : {T : Type 0} (tells : Bool) (content : T → List ℕ) (heade
     (old new : State T) (actor : Actor) (worker : WorkerId) (taken : Taken T) (work : Work T) →
     record { header = header; events = events; residents = residents } ≡ old →
     new ≡ record { header = header; events = record { actor = actor; act = Claim worker taken.rec } ∷ events; residents = residents } →
-    Stands tells content header events residents spare → next (without_tickets events) ≡ Some taken.rec → IsTaken content events residents taken →
+    Stands tells content header events residents spare → next header.order (without_tickets events) ≡ Some taken.rec → IsTaken content events residents taken →
     work ≡ record { actor = actor; worker = worker; incarnation = incarnation events worker; place = length events; rec = taken.rec; core = taken.core; inputs = taken.inputs } →
     Claimed tells content old new actor worker (Some work)
 claimed-work {T} tells content header events residents spare old new actor worker taken work old_is new_is s is taken_is work_is =

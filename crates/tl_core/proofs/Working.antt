@@ -9,7 +9,7 @@ use Rattle.tl_model.specs.declared.header.Header.{Header}
 use Rattle.tl_model.specs.Past.{Past, events_with, without_tickets}
 use Rattle.tl_model.specs.Actors.{OpenClaim, open_read, open_claim, open_save, claims_record}
 use Rattle.tl_model.specs.Rules.{lawful_judge}
-use Rattle.tl_laws.specs.Permits.{holds-one}
+use Rattle.tl_laws.proofs.Permits.{holds-one, actor-known}
 use Rattle.tl_core.specs.Residents.{Residents}
 use Rattle.tl_core.specs.Room.{one_if_some, under_way_of, under_way}
 use Rattle.tl_core.specs.State.{Stands, undropped_judge}
@@ -49,8 +49,8 @@ back tells content header events residents spare actor claim s is known =
     let one_less : under_way (record { actor = actor; act = Back claim.made } ∷ past) + 1 ≤ under_way past =
     claim-ended past actor (Back claim.made) claim is known (λ a. refl) in
     record {
-      lawful = holds-one lawful_judge header events (record { actor = actor; act = Back claim.made }) s.lawful claims refl;
-      told = λ tell. holds-one (undropped_judge header) header (events_with content events) (record { actor = actor; act = Back claim.made }) (s.told tell) told_claims refl;
+      lawful = holds-one lawful_judge header events (record { actor = actor; act = Back claim.made }) s.lawful (actor-known actor known) claims refl;
+      told = λ tell. holds-one (undropped_judge header) header (events_with content events) (record { actor = actor; act = Back claim.made }) (s.told tell) (actor-known actor known) told_claims refl;
       places = s.places;
       blocks = s.blocks;
       sound = s.sound;

@@ -70,11 +70,11 @@ after_call actor command reply events =
     with_freed actor (freed events command) (with_saved actor (put_made reply command) (record { actor = actor; act = Call command reply } ∷ events))
 
 -- a put's bytes are no more than a file may have; a job's program keeps the kind rules for as many inputs and outputs as
--- there are paths, at most 255 of them outputs
+-- there are paths
 abbrev pub IsFitting : {T : Type 0} → Command T → Type 0
 IsFitting (Put path len digest ticket) = len ≤ 1048576
 IsFitting (Job core prio inputs outputs) =
-    (core.program.inputs ≡ length inputs) × (core.program.outputs ≡ length outputs) × (length outputs ≤ 255)
+    (core.program.inputs ≡ length inputs) × (core.program.outputs ≡ length outputs)
 IsFitting _ = Unit {0}
 
 -- a call answers its number in the history and the reply that the history determines, and is recorded, with what follows it; a freed file is

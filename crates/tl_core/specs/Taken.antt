@@ -6,6 +6,7 @@ use Rattle.tl_types.specs.declared.file_id.FileId.{FileId}
 use Rattle.tl_types.specs.declared.worker_id.WorkerId.{WorkerId}
 use Rattle.tl_model.specs.declared.event.Act.TheVariants.{Claim}
 use Rattle.tl_model.specs.declared.event.Event.{Event}
+use Rattle.tl_model.specs.declared.header.Header.{Header}
 use Rattle.tl_model.specs.declared.record.Record.TheVariants as kind
 use Rattle.tl_model.specs.Past.{without_tickets}
 use Rattle.tl_model.specs.History.{record_at}
@@ -49,10 +50,10 @@ IsTaken content events residents taken =
     × AreFedBy content events residents inputs taken.inputs.items
 
 -- the next job with what stands for its inputs, or none where none is next
-abbrev pub TakesUp : {T : Type 0} → (T → List ℕ) → List (Event T) → Residents → Option (Taken T) → Type 0
-TakesUp content events residents None = next (without_tickets events) ≡ None
-TakesUp content events residents (Some taken) =
-    (next (without_tickets events) ≡ Some taken.rec)
+abbrev pub TakesUp : {T : Type 0} → (T → List ℕ) → Header → List (Event T) → Residents → Option (Taken T) → Type 0
+TakesUp content header events residents None = next header.order (without_tickets events) ≡ None
+TakesUp content header events residents (Some taken) =
+    (next header.order (without_tickets events) ≡ Some taken.rec)
     × IsTaken content events residents taken
 
 -- the block that is held of an input, or else what is saved of it
@@ -77,9 +78,9 @@ IsJobOf tells content state work =
 
 -- a claim takes up the record that is next, if one is
 abbrev pub Claimed : {T : Type 0} → Bool → (T → List ℕ) → State T → State T → Actor → WorkerId → Option (Work T) → Type 0
-Claimed tells content old new actor worker None = (next (past_of old) ≡ None) × (new ≡ old)
+Claimed tells content old new actor worker None = (next old.header.order (past_of old) ≡ None) × (new ≡ old)
 Claimed tells content old new actor worker (Some work) =
-    (next (past_of old) ≡ Some work.rec)
+    (next old.header.order (past_of old) ≡ Some work.rec)
     × (new ≡ with_event actor (Claim worker work.rec) old)
     × (work.actor ≡ actor)
     × (work.worker ≡ worker)

@@ -1,26 +1,22 @@
 //! Taking up the job that is next.
 
-ghost use Rattle.std.specs.Prelude.{◌≡◌, ◌||◌, true, is_some, option_map, slice_get, reverse, IfOk};
-ghost use Rattle.tl_model.specs.History.{records};
+ghost use Rattle.std.specs.Prelude.{◌≡◌, ◌||◌, true, Some, is_some, reverse, IfOk};
+ghost use Rattle.tl_model.specs.Rules.{is_lawful};
 ghost use Rattle.tl_model.specs.Past.{without_tickets};
-ghost use Rattle.tl_laws.specs.Numbers.{Numbered};
 ghost use Rattle.tl_core.specs.Puts.{kept_put};
 ghost use Rattle.tl_core.specs.Residents.{found};
-ghost use Rattle.tl_laws.specs.Next.{IsNext};
+ghost use Rattle.tl_model.specs.Plan.{next};
 ghost use Rattle.tl_core.specs.Taken.{AreFedBy, AreSupplied, IsFedBy, IsTaken, Supplies, TakesUp};
-ghost use Rattle.std.specs.Option.{option_copied};
-ghost use Rattle.tl_walk.specs.Accepts.{record_of, records_in};
 
 use crate::puts::{kept_put, saved_put};
-use crate::resident::{Resident, find_output};
+use crate::resident::{Resident, find};
 use crate::work::{Feed, Work};
 use std::alloc::Global;
 use tl_io::Ticket;
 use tl_lang::JobSpecCore;
-use tl_model::Event;
-use tl_plain::{Plan, Seen, Tasks};
+use tl_ledger::Ledger;
+use tl_model::{Event, Record};
 use tl_types::{Actor, FileId, NoMemory, RecordId, Shared, WorkerId};
-use tl_walk::{Accepted, Output};
 
 /// A job that is taken up, with what stands for each of its inputs.
 #[derive(Drop)]
@@ -62,57 +58,45 @@ impl<T> Taken<T> {
     }
 }
 
-/// Takes up the job that is next after these events, if one is.
+/// Takes up the job that is next, if one is. The ledger changes nothing that contracts see.
 pub(crate) fn take_up<T: Ticket>(
     alloc: Global,
-    events: &[Event<T>],
+    ledger: &mut Ledger<T>,
     residents: &[Resident],
 ) -> Result<Option<Taken<T>>, NoMemory>
-    requires numbers { Numbered (records (without_tickets (reverse events.now))) }
-    requires supplies { Supplies (reverse events.now) residents.now }
-    ensures { IfOk result (TakesUp T.content (reverse events.now) residents.now) }
+    requires lawful { is_lawful ledger.old.header ledger.old.events ≡ true }
+    requires supplies { Supplies ledger.old.events residents.now }
+    ensures taken { IfOk result (TakesUp T.content ledger.old.header ledger.old.events residents.now) }
+    ensures same { ledger.new ≡ ledger.old }
 {
-    let tasks = Tasks::new(alloc, Seen::new(alloc, events)?)?;
-    let plan = Plan::new(alloc, tasks)?;
-    match plan.next() {
-        Some(made) => {
-            let records = plan.tasks().seen().records();
-            Ok(Some(take(alloc, events, residents, records, made)?))
-        }
+    match ledger.next() {
+        Some(made) => Ok(Some(take(alloc, ledger, residents, made)?)),
         None => Ok(None),
     }
 }
 
-// Takes up the job of this number of the records, which is next after the events.
+// Takes up the job of this number, which is next.
 fn take<T: Ticket>(
     alloc: Global,
-    events: &[Event<T>],
+    ledger: &Ledger<T>,
     residents: &[Resident],
-    accepted: &[Accepted],
     made: RecordId,
 ) -> Result<Taken<T>, NoMemory>
-    requires accepted { records_in accepted.now ≡ records (without_tickets (reverse events.now)) }
-    requires next { IsNext (without_tickets (reverse events.now)) made }
-    requires supplies { Supplies (reverse events.now) residents.now }
+    requires lawful { is_lawful ledger.now.header ledger.now.events ≡ true }
+    requires next { next ledger.now.header.order (without_tickets ledger.now.events) ≡ Some made }
+    requires supplies { Supplies ledger.now.events residents.now }
     ensures rec { IfOk result (λ taken. taken.rec ≡ made) }
-    ensures taken { IfOk result (IsTaken T.content (reverse events.now) residents.now) }
+    ensures taken { IfOk result (IsTaken T.content ledger.now.events residents.now) }
 {
-    match record_at(accepted, made) {
-        Some(Accepted::Job { core, inputs, .. }) => Ok(Taken {
+    match ledger.record(made) {
+        Some(Record::Job { core, inputs, .. }) => Ok(Taken {
             rec: made,
             core: core.try_clone()?,
-            inputs: feeds(alloc, events, residents, inputs.as_slice())?,
+            inputs: feeds(alloc, ledger.events(), residents, inputs.as_slice())?,
         }),
-        Some(Accepted::Put { .. }) => unreachable!(),
+        Some(Record::Put { .. }) => unreachable!(),
         None => unreachable!(),
     }
-}
-
-/// The record of this number.
-pub(crate) fn record_at(records: &[Accepted], made: RecordId) -> Option<&Accepted>
-    ensures { option_map record_of (option_copied result) ≡ slice_get (records_in records.now) made.0 }
-{
-    records.get(made.0 as usize)
 }
 
 // What stands for each of the files.
@@ -120,7 +104,7 @@ fn feeds<T: Ticket>(
     alloc: Global,
     events: &[Event<T>],
     residents: &[Resident],
-    files: &[Output],
+    files: &[FileId],
 ) -> Result<Vec<Feed<T>>, NoMemory>
     requires { AreSupplied (reverse events.now) residents.now files.now }
     ensures { IfOk result (λ feeds. AreFedBy T.content (reverse events.now) residents.now files.now feeds.items) }
@@ -136,21 +120,15 @@ fn feeds<T: Ticket>(
 fn feed<T: Ticket>(
     events: &[Event<T>],
     residents: &[Resident],
-    file: Output,
+    file: FileId,
 ) -> Result<Feed<T>, NoMemory>
     requires { (is_some (found file residents.now) || is_some (kept_put (reverse events.now) file)) ≡ true }
     ensures { IfOk result (IsFedBy T.content (reverse events.now) residents.now file) }
 {
-    match find_output(residents, file) {
+    match find(residents, file) {
         Some(resident) => Ok(Feed::Have(resident.block.try_clone()?)),
         None => match kept_put(events, file) {
-            Some(put) => {
-                let first = FileId {
-                    rec: file.made(),
-                    out: 0,
-                };
-                Ok(Feed::Kept(first, saved_put(put)?))
-            }
+            Some(put) => Ok(Feed::Kept(file, saved_put(put)?)),
             None => unreachable!(),
         },
     }

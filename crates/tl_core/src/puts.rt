@@ -3,19 +3,18 @@
 ghost use Rattle.std.specs.Prelude.{◌≡◌, option_map, reverse, IfOk};
 ghost use Rattle.tl_core.specs.Puts.{kept_put, kept_after, seen, IsCopy};
 
-use crate::resident::is_output;
+use crate::resident::same_file;
 use tl_io::Ticket;
 use tl_model::{Act, Command, Event, Reply, Saved};
 use tl_types::{Digest, FileId, NoMemory};
-use tl_walk::Output;
 
 /// The ticket of the put that made the file, with the length and the digest of its bytes.
-pub(crate) fn kept_put<T>(events: &[Event<T>], output: Output) -> Option<(&T, u64, Digest)>
-    ensures { option_map seen result ≡ kept_put (reverse events.now) output }
+pub(crate) fn kept_put<T>(events: &[Event<T>], file: FileId) -> Option<(&T, u64, Digest)>
+    ensures { option_map seen result ≡ kept_put (reverse events.now) file }
 {
     let mut kept = None;
     for event in events {
-        kept = kept_after(&event.act, output, kept);
+        kept = kept_after(&event.act, file, kept);
     }
     kept
 }
@@ -23,10 +22,10 @@ pub(crate) fn kept_put<T>(events: &[Event<T>], output: Output) -> Option<(&T, u6
 // The put that made the file after an act, where before it it was this one.
 fn kept_after<'a, T>(
     act: &'a Act<T>,
-    output: Output,
+    file: FileId,
     before: Option<(&'a T, u64, Digest)>,
 ) -> Option<(&'a T, u64, Digest)>
-    ensures { option_map seen result ≡ kept_after act.now output (option_map seen before.entry) }
+    ensures { option_map seen result ≡ kept_after act.now file (option_map seen before.entry) }
 {
     match act {
         Act::Call(
@@ -37,7 +36,7 @@ fn kept_after<'a, T>(
                 ..
             },
             Reply::Made(made),
-        ) if is_output(output, FileId { rec: *made, out: 0 }) => Some((ticket, *len, *digest)),
+        ) if same_file(file, FileId { rec: *made, out: 0 }) => Some((ticket, *len, *digest)),
         _ => before,
     }
 }

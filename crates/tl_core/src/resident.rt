@@ -5,7 +5,6 @@ ghost use Rattle.tl_core.specs.Residents.{file_held, found, is_elsewhere, is_oth
 ghost use Rattle.tl_core.specs.Brought.{with_block, with_blocks};
 
 use tl_types::{Block, FileId, Shared, WorkerId};
-use tl_walk::Output;
 
 /// A block in a worker's memory, and the worker.
 #[derive(Debug, Drop)]
@@ -18,23 +17,16 @@ pub struct Resident {
 pub(crate) fn find(residents: &[Resident], file: FileId) -> Option<&Resident>
     ensures { option_copied result ≡ found file residents.now }
 {
-    find_output(residents, Output::from(file))
-}
-
-/// The block of an output, with its worker.
-pub(crate) fn find_output(residents: &[Resident], output: Output) -> Option<&Resident>
-    ensures { option_copied result ≡ found output residents.now }
-{
     residents
         .iter()
-        .find(|resident| is_output(output, resident.block.get().file()))
+        .find(|resident| same_file(file, resident.block.get().file()))
 }
 
-/// Whether the output is this file.
-pub(crate) fn is_output(output: Output, file: FileId) -> bool
-    ensures { result ≡ file_same output file }
+/// Whether two files are one.
+pub(crate) fn same_file(a: FileId, b: FileId) -> bool
+    ensures { result ≡ file_same a b }
 {
-    output.made() == file.rec && output.out() == usize::from(file.out)
+    a == b
 }
 
 /// Brings the blocks to the worker, one after another, but those whose files are in some memory.
@@ -103,5 +95,5 @@ pub(crate) fn take_out(residents: &mut Vec<Resident>, file: Option<FileId>)
 fn take_file(residents: &mut Vec<Resident>, file: FileId)
     ensures { residents.new.items ≡ filter (is_other file) residents.old.items }
 {
-    residents.retain(|resident| !is_output(Output::from(resident.block.get().file()), file));
+    residents.retain(|resident| !same_file(resident.block.get().file(), file));
 }

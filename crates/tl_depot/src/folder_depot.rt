@@ -51,7 +51,13 @@ impl<'a, R: Files> FolderDepot<'a, R> {
 impl<'a, R: Files> Depot for FolderDepot<'a, R> {
     type Ticket = FolderTicket;
 
+    ghost use Rattle.std.specs.Prelude.{◌≡◌, ◌≤◌};
+
     ghost faults = { λ d. d.faults };
+
+    ghost saves = { λ old new. old.saved ≤ new.saved };
+
+    ghost loads = { λ old new. new.saved ≡ old.saved };
 
     /// Makes the folder where it is missing. A file that can't be written is a fault. The ticket is the
     /// handle with the count of saves before, which stands still at its last value; a save that fails
@@ -62,6 +68,7 @@ impl<'a, R: Files> Depot for FolderDepot<'a, R> {
         ensures never_falls { ⟦<FolderDepot<'a, R> as Depot>⟧.faults self.old ≤ ⟦<FolderDepot<'a, R> as Depot>⟧.faults self.new }
         ensures fine { OnOk result (⟦<FolderDepot<'a, R> as Depot>⟧.faults self.new ≡ ⟦<FolderDepot<'a, R> as Depot>⟧.faults self.old) }
         ensures ticket { IfOk result (λ ticket. ticket ≡ next_ticket self.old) }
+        ensures asked { self.old.saved ≤ self.new.saved }
         ensures counted { OnOk result (self.new ≡ with_save self.old) }
         ensures err { IfErr result (λ error. self.new ≡ after_error error self.old) }
     {
@@ -89,6 +96,7 @@ impl<'a, R: Files> Depot for FolderDepot<'a, R> {
         ensures failed { result ≡ Err DepotError.Failed → Rises (⟦<FolderDepot<'a, R> as Depot>⟧.faults self.old) (⟦<FolderDepot<'a, R> as Depot>⟧.faults self.new) }
         ensures never_falls { ⟦<FolderDepot<'a, R> as Depot>⟧.faults self.old ≤ ⟦<FolderDepot<'a, R> as Depot>⟧.faults self.new }
         ensures fine { OnOk result (⟦<FolderDepot<'a, R> as Depot>⟧.faults self.new ≡ ⟦<FolderDepot<'a, R> as Depot>⟧.faults self.old) }
+        ensures asked { self.new.saved ≡ self.old.saved }
         ensures same { OnOk result (self.new ≡ self.old) }
         ensures err { IfErr result (λ error. self.new ≡ after_error error self.old) }
         ensures limit { IfOk result (λ bytes. vec_len bytes ≤ limit) }

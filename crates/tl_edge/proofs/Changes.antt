@@ -17,9 +17,11 @@ use Rattle.tl_model.specs.History.{files_at, has_input, id_of, inputs_of, is_nam
 use Rattle.tl_model.specs.Actors.{actors}
 use Rattle.tl_model.specs.Residency.{claim_reads, does, is_saved, is_use, place, reads, saved_as, was_done}
 use Rattle.tl_model.specs.Checkpoints.{is_leaf, last_done}
-use Rattle.tl_laws.specs.Numbers.{Numbered, get-within}
+use Rattle.tl_laws.specs.Numbers.{Numbered}
+use Rattle.tl_laws.proofs.Numbering.{get-within}
 use Rattle.tl_laws.specs.Made.{IsOutputOf}
-use Rattle.tl_laws.specs.Order.{HasOlderInputs, among-holds}
+use Rattle.tl_laws.specs.Order.{HasOlderInputs}
+use Rattle.tl_laws.proofs.Order.{among-holds}
 use Rattle.tl_steps.specs.Steps.{UnnamesOnly, accepts, added, next_of}
 use Rattle.tl_steps.specs.Within.{IsWithin}
 use Rattle.tl_steps.proofs.Lists.{map_after, map_same}

@@ -3,3 +3,5 @@ pub mod Changes
 pub mod Choosing
 pub mod Noting
 pub mod Rows
+pub mod Unnamed
+pub mod Once

@@ -18,15 +18,17 @@ use Rattle.tl_model.specs.Rules.{Judge, all_permitted, lawful_judge}
 use Rattle.tl_model.specs.History.{files_at, inputs_of, names, record_made, records}
 use Rattle.tl_model.specs.Actors.{actors}
 use Rattle.tl_laws.specs.Numbers.{Numbered}
-use Rattle.tl_laws.specs.Order.{HasOlderInputs, all-ordered}
-use Rattle.tl_laws.specs.Tickets.{records-with}
-use Rattle.tl_needs.specs.Next.{event-next}
-use Rattle.tl_needs.specs.Sound.{past-numbered, permitted-before}
+use Rattle.tl_laws.specs.Order.{HasOlderInputs}
+use Rattle.tl_laws.proofs.Growing.{IsGrown, last-grows}
+use Rattle.tl_laws.proofs.Order.{all-ordered}
+use Rattle.tl_laws.proofs.Tickets.{records-with}
+use Rattle.tl_laws_needs.proofs.Next.{event-next}
+use Rattle.tl_laws_needs.proofs.Sound.{past-numbered, permitted-before}
 use Rattle.tl_steps.specs.Steps.{UnnamesOnly, added, next_of}
 use Rattle.tl_steps.specs.Within.{IsWithin}
 use Rattle.tl_steps.proofs.Files.{after}
 use Rattle.tl_steps.proofs.Lists.{map_append}
-use Rattle.tl_steps.proofs.Named.{NoNewNames, just-named, outputs-named}
+use Rattle.tl_steps.proofs.Named.{NoNewNames, accepted-named}
 use Rattle.tl_steps.proofs.Within.{all-within}
 use Rattle.tl_edge.specs.declared.kept.Kept.{Kept}
 use Rattle.tl_edge.specs.declared.output.Output.{Output}
@@ -57,28 +59,28 @@ one-added now rs r next inputs files is same_inputs same_files room outputs = (
 )
 
 call-added : (actor : Actor) (reply : Reply) (c : Command (Unit {0})) (past : Past) (next : Option Kept) (inputs : List (List FileId)) (files : List (List Output)) → IsWithin past →
-    Numbered (records (after actor (Call c reply) past)) → AllByRecursion HasOlderInputs (records (after actor (Call c reply) past)) → RoomFor next (record_made reply c (names past)) →
+    IsGrown past (Call c reply) → Numbered (records (after actor (Call c reply) past)) → AllByRecursion HasOlderInputs (records (after actor (Call c reply) past)) → RoomFor next (record_made reply c (names past)) →
     inputs ≡ map inputs_of (records past) → files ≡ files_in (after actor (Call c reply) past) (records past) →
     AddedTo (after actor (Call c reply) past) (next_of (Call c reply) next) inputs files
-call-added actor (Made made) (command.Put path len digest ticket) past next inputs files within numbered older room same_inputs same_files =
+call-added actor (Made made) (command.Put path len digest ticket) past next inputs files within grows numbered older room same_inputs same_files =
     let c = command.Put path len digest ticket in
     let r = kind.Put made in
     one-added (after actor (Call c (Made made)) past) (records past) r next inputs files refl same_inputs same_files room
-    (outputs-new actor c (Made made) past r within refl numbered older (λ j less. just-named path (names past) made 0 j (omega arith)))
-call-added actor (Made made) (command.Job core prio read outputs) past next inputs files within numbered older room same_inputs same_files =
+    (outputs-new actor c (Made made) past r within refl numbered older (λ j less. accepted-named past (Made made) c r grows refl j less))
+call-added actor (Made made) (command.Job core prio read outputs) past next inputs files within grows numbered older room same_inputs same_files =
     let c = command.Job core prio read outputs in
     let r = kind.Job made core prio (files_at (names past) read) (length outputs) in
     one-added (after actor (Call c (Made made)) past) (records past) r next inputs files refl same_inputs same_files room
-    (outputs-new actor c (Made made) past r within refl numbered older (λ j less. outputs-named (names past) made 0 outputs j (omega arith) (let few : j < length outputs = less in omega arith)))
-call-added actor reply c past next inputs files within numbered older room same_inputs same_files =
+    (outputs-new actor c (Made made) past r within refl numbered older (λ j less. accepted-named past (Made made) c r grows refl j less))
+call-added actor reply c past next inputs files within grows numbered older room same_inputs same_files =
     none-added (after actor (Call c reply) past) (records past) inputs files (append-nil (records past)) same_inputs same_files
 
 act-added : (actor : Actor) (act : Act (Unit {0})) (past : Past) (next : Option Kept) (inputs : List (List FileId)) (files : List (List Output)) → IsWithin past →
-    Numbered (records (after actor act past)) → AllByRecursion HasOlderInputs (records (after actor act past)) → RoomFor next (added past act) →
+    IsGrown past act → Numbered (records (after actor act past)) → AllByRecursion HasOlderInputs (records (after actor act past)) → RoomFor next (added past act) →
     inputs ≡ map inputs_of (records past) → files ≡ files_in (after actor act past) (records past) → AddedTo (after actor act past) (next_of act next) inputs files
-act-added actor (Call c reply) past next inputs files within numbered older room same_inputs same_files =
-    call-added actor reply c past next inputs files within numbered older room same_inputs same_files
-act-added actor act past next inputs files within numbered older room same_inputs same_files =
+act-added actor (Call c reply) past next inputs files within grows numbered older room same_inputs same_files =
+    call-added actor reply c past next inputs files within grows numbered older room same_inputs same_files
+act-added actor act past next inputs files within grows numbered older room same_inputs same_files =
     none-added (after actor act past) (records past) inputs files refl same_inputs same_files
 
 room-for : (edge : EdgeData) (rs : List Record) → HasRoomForAll edge rs → RoomFor edge.next rs
@@ -88,9 +90,9 @@ room-for edge (r ∷ rs) room = room
 -- what stood for a past stands, after an event, for the past with the event
 pub stands-after : (header : Header) (actor : Actor) (act : Act (Unit {0})) (past : Past) (gone : Option FileId) (edge : EdgeData) → StandsFor header edge past →
     HasRoomForAll edge (added past act) → UnnamesOnly past (record { actor = actor; act = act }) gone → NoNewNames past (after actor act past) → IsWithin past →
-    Numbered (records (after actor act past)) → AllByRecursion HasOlderInputs (records (after actor act past)) → length (after actor act past) < 2 ^ 64 →
+    IsGrown past act → Numbered (records (after actor act past)) → AllByRecursion HasOlderInputs (records (after actor act past)) → length (after actor act past) < 2 ^ 64 →
     StandsFor header (edge_after (record { actor = actor; act = act }) gone edge) (after actor act past)
-stands-after header actor act past gone edge stands room only names_older within numbered older few =
+stands-after header actor act past gone edge stands room only names_older within grows numbered older few =
     let now = after actor act past in
     let few_now : suc (length past) < 2 ^ 64 = few in
     let place = room-for edge (added past act) room in
@@ -98,7 +100,7 @@ stands-after header actor act past gone edge stands room only names_older within
     let files : changed ≡ files_in now (records past) =
     (λ i. taken_up (next_of act edge.next) (files_after (stands.inputs i) (stands.count i) gone act (stands.files i)))
     ∙ files-same edge.next gone actor act past within.numbered place only names_older few_now in
-    let all = act-added actor act past edge.next edge.inputs changed within numbered older place stands.inputs files in
+    let all = act-added actor act past edge.next edge.inputs changed within grows numbered older place stands.inputs files in
     let le : length past ≤ length past = omega arith in
     record {
       inputs = all.0;
@@ -136,7 +138,7 @@ noted header event past gone edge stands room only permitted few =
     let before = permitted-before lawful_judge header event past permitted in
     stands-after header event.actor (act_with (λ _. tt) event.act) (without_tickets past) gone edge stands room only
     (event-next lawful_judge header event past permitted).named (all-within lawful_judge header past before)
-    (past-numbered lawful_judge header (event ∷ past) permitted) (older-inputs lawful_judge header (event ∷ past) permitted)
+    (last-grows lawful_judge header event past permitted) (past-numbered lawful_judge header (event ∷ past) permitted) (older-inputs lawful_judge header (event ∷ past) permitted)
     (subst (λ (n : ℕ). n < 2 ^ 64) (sym (without-length (event ∷ past))) few)
   where
     without-length : {T : Type 0} (events : List (Event T)) → length (without_tickets events) ≡ length events

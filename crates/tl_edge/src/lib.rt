@@ -12,4 +12,4 @@ mod outputs;
 mod save;
 
 pub use edge::Edge;
-pub use laws::{a_delete_unnames_its_file, only_deletes_unname};
+pub use laws::{a_delete_unnames_its_file, each_name_stands_once, only_deletes_unname};

@@ -14,8 +14,8 @@ use Rattle.tl_model.specs.Rules.{Judge, all_permitted, is_permitted}
 use Rattle.tl_model.specs.History.{record_at, records}
 use Rattle.tl_model.specs.Residency.{collects, is_collected, is_kept}
 use Rattle.tl_model.specs.Needs.{is_needed}
-use Rattle.tl_laws.specs.Numbers.{get-within}
-use Rattle.tl_needs.specs.Sound.{permitted-before, permitted-last}
+use Rattle.tl_laws.proofs.Numbering.{get-within}
+use Rattle.tl_laws_needs.proofs.Sound.{permitted-before, permitted-last}
 use Rattle.tl_steps.specs.Steps.{added}
 use Rattle.tl_steps.proofs.Files.{after}
 

@@ -13,7 +13,8 @@ use Rattle.tl_model.specs.Actors.{is_read, is_running}
 use Rattle.tl_model.specs.Residency.{is_saved}
 use Rattle.tl_model.specs.Plan.{has_id, is_task}
 use Rattle.tl_model.specs.Needs.{is_needed, needed_among}
-use Rattle.tl_laws.specs.Numbers.{Numbered, get-within}
+use Rattle.tl_laws.specs.Numbers.{Numbered}
+use Rattle.tl_laws.proofs.Numbering.{get-within}
 use Rattle.tl_steps.proofs.Files.{not-true}
 use Rattle.tl_steps.proofs.Lists.{any_map, get_map}
 use Rattle.tl_steps.proofs.Seats.{read-same, running-same, seats_of}

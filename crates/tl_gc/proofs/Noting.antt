@@ -21,13 +21,14 @@ use Rattle.tl_model.specs.Actors.{actors}
 use Rattle.tl_model.specs.Residency.{collects, is_collected, is_saved, saved_as}
 use Rattle.tl_laws.specs.Numbers.{Numbered}
 use Rattle.tl_laws.specs.Made.{IsOutputOf}
-use Rattle.tl_needs.specs.Next.{event-next}
-use Rattle.tl_needs.specs.Sound.{past-numbered, permitted-before}
+use Rattle.tl_laws_needs.proofs.Next.{event-next}
+use Rattle.tl_laws_needs.proofs.Sound.{past-numbered, permitted-before}
+use Rattle.tl_laws.proofs.Growing.{IsGrown, last-grows}
 use Rattle.tl_steps.specs.Steps.{UnnamesOnly, added, changed_at, is_gone, new_seat, next_of, saves_now, seat_after}
 use Rattle.tl_steps.specs.Within.{IsWithin}
 use Rattle.tl_steps.proofs.Files.{after, each-file, is-output, new-number, not-true, not-yet, saved-same}
 use Rattle.tl_steps.proofs.Lists.{get_map, map_after, map_append, map_same}
-use Rattle.tl_steps.proofs.Named.{NoNewNames, just-named, named-same, outputs-named}
+use Rattle.tl_steps.proofs.Named.{NoNewNames, accepted-named, named-same}
 use Rattle.tl_steps.proofs.Seats.{seats-after}
 use Rattle.tl_steps.proofs.Within.{all-within}
 use Rattle.tl_gc.specs.declared.kept.Kept.{Kept}
@@ -182,27 +183,27 @@ one-added now rs r next kept is same room new =
     ∙ ap (map (kept_in now)) (sym is)
 
 call-added : (actor : Actor) (reply : Reply) (c : Command (Unit {0})) (past : Past) (next : Option Kept) (kept : List Kept) → IsWithin past → CollectsAccepted past →
-    Numbered (records (after actor (Call c reply) past)) → RoomFor next (record_made reply c (names past)) →
+    IsGrown past (Call c reply) → Numbered (records (after actor (Call c reply) past)) → RoomFor next (record_made reply c (names past)) →
     kept ≡ map (kept_in (after actor (Call c reply) past)) (records past) → AddedTo (after actor (Call c reply) past) (next_of (Call c reply) next) kept
-call-added actor (Made made) (command.Put path len digest ticket) past next kept within accepted numbered room same =
+call-added actor (Made made) (command.Put path len digest ticket) past next kept within accepted grows numbered room same =
     let c = command.Put path len digest ticket in
     let r = kind.Put made in
     one-added (after actor (Call c (Made made)) past) (records past) r next kept refl same room
-    (record-new actor c (Made made) past r within accepted refl numbered (λ j less. just-named path (names past) made 0 j (omega arith)))
-call-added actor (Made made) (command.Job core prio read outputs) past next kept within accepted numbered room same =
+    (record-new actor c (Made made) past r within accepted refl numbered (λ j less. accepted-named past (Made made) c r grows refl j less))
+call-added actor (Made made) (command.Job core prio read outputs) past next kept within accepted grows numbered room same =
     let c = command.Job core prio read outputs in
     let r = kind.Job made core prio (files_at (names past) read) (length outputs) in
     one-added (after actor (Call c (Made made)) past) (records past) r next kept refl same room
     (record-new actor c (Made made) past r within accepted refl numbered
-    (λ j less. outputs-named (names past) made 0 outputs j (omega arith) (let few : j < length outputs = less in omega arith)))
-call-added actor reply c past next kept within accepted numbered room same =
+    (λ j less. accepted-named past (Made made) c r grows refl j less))
+call-added actor reply c past next kept within accepted grows numbered room same =
     none-added (after actor (Call c reply) past) (records past) kept (append-nil (records past)) same
 
 act-added : (actor : Actor) (act : Act (Unit {0})) (past : Past) (next : Option Kept) (kept : List Kept) → IsWithin past → CollectsAccepted past →
-    Numbered (records (after actor act past)) → RoomFor next (added past act) → kept ≡ map (kept_in (after actor act past)) (records past) →
+    IsGrown past act → Numbered (records (after actor act past)) → RoomFor next (added past act) → kept ≡ map (kept_in (after actor act past)) (records past) →
     AddedTo (after actor act past) (next_of act next) kept
-act-added actor (Call c reply) past next kept within accepted numbered room same = call-added actor reply c past next kept within accepted numbered room same
-act-added actor act past next kept within accepted numbered room same = none-added (after actor act past) (records past) kept refl same
+act-added actor (Call c reply) past next kept within accepted grows numbered room same = call-added actor reply c past next kept within accepted grows numbered room same
+act-added actor act past next kept within accepted grows numbered room same = none-added (after actor act past) (records past) kept refl same
 
 -- ---- one event
 
@@ -212,11 +213,11 @@ room-for gc (r ∷ rs) room = room
 
 stands-after : (actor : Actor) (act : Act (Unit {0})) (past : Past) (gone : Option FileId) (gc : GcData) → StandsFor gc past → HasRoomForAll gc (added past act) →
     UnnamesOnly past (record { actor = actor; act = act }) gone → NoNewNames past (after actor act past) → IsWithin past → CollectsAccepted past →
-    Numbered (records (after actor act past)) → StandsFor (gc_after (record { actor = actor; act = act }) gone gc) (after actor act past)
-stands-after actor act past gone gc stands room only older within accepted numbered =
+    IsGrown past act → Numbered (records (after actor act past)) → StandsFor (gc_after (record { actor = actor; act = act }) gone gc) (after actor act past)
+stands-after actor act past gone gc stands room only older within accepted grows numbered =
     let changed = ap (records_after act gone) stands.kept ∙ changed-same actor act past gone stands.numbered only older in
     record {
-      kept = act-added actor act past gc.next (records_after act gone gc.kept) within accepted numbered (room-for gc (added past act) room) changed;
+      kept = act-added actor act past gc.next (records_after act gone gc.kept) within accepted grows numbered (room-for gc (added past act) room) changed;
       seats = ap (map (seat_after (record { actor = actor; act = act }))) stands.seats ∙ seats-after (record { actor = actor; act = act }) past;
       numbered = numbered;
     }
@@ -237,4 +238,4 @@ noted header event past gone gc stands room only permitted =
     let before = permitted-before lawful_judge header event past permitted in
     stands-after event.actor (act_with (λ _. tt) event.act) (without_tickets past) gone gc stands room only
     (event-next lawful_judge header event past permitted).named (all-within lawful_judge header past before)
-    (collected-within lawful_judge header past before) (past-numbered lawful_judge header (event ∷ past) permitted)
+    (collected-within lawful_judge header past before) (last-grows lawful_judge header event past permitted) (past-numbered lawful_judge header (event ∷ past) permitted)

@@ -43,10 +43,17 @@ pub trait Depot {
     // The count of faults, which never falls.
     ghost faults: { Self → ℕ };
 
+    // What one save makes of a depot, and what one load makes of it. Whoever knows no more of a depot
+    // than this trait has the one fact by a call of `save` alone, and the other by one of `load`.
+    ghost saves: { Self → Self → Type 0 };
+
+    ghost loads: { Self → Self → Type 0 };
+
     /// Keeps `bytes`.
     fn save(&mut self, alloc: Global, bytes: &[u8]) -> Result<Self::Ticket, DepotError>
         ensures content { IfOk result (λ ticket.
             IsTrue Self.Ticket.tells → Self.Ticket.content ticket ≡ bytes.now) }
+        ensures asked { saves self.old self.new }
         ensures failed { result ≡ Err DepotError.Failed → Rises (faults self.old) (faults self.new) }
         ensures never_falls { faults self.old ≤ faults self.new };
 
@@ -59,6 +66,7 @@ pub trait Depot {
     ) -> Result<Vec<u8>, DepotError>
         ensures content { IfOk result (λ bytes.
             IsTrue Self.Ticket.tells → bytes.items ≡ take limit (Self.Ticket.content ticket.now)) }
+        ensures asked { loads self.old self.new }
         ensures failed { result ≡ Err DepotError.Failed → Rises (faults self.old) (faults self.new) }
         ensures never_falls { faults self.old ≤ faults self.new };
 }

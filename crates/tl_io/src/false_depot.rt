@@ -49,7 +49,13 @@ impl FalseDepot {
 impl Depot for FalseDepot {
     type Ticket = FalseTicket;
 
+    ghost use Rattle.std.specs.Prelude.{◌≡◌};
+
     ghost faults = { λ _. 0 };
+
+    ghost saves = { λ old new. new ≡ old };
+
+    ghost loads = { λ old new. new ≡ old };
 
     fn save(&mut self, _alloc: Global, _bytes: &[u8]) -> Result<FalseTicket, DepotError>
         ensures saved { IsOk result }

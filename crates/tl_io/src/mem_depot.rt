@@ -37,7 +37,14 @@ impl MemDepot {
 impl Depot for MemDepot {
     type Ticket = MemTicket;
 
+    ghost use Rattle.std.specs.Prelude.{◌≡◌};
+    ghost use Rattle.tl_io.specs.Calls.{after_call};
+
     ghost faults = { λ d. d.faults };
+
+    ghost saves = { λ old new. new ≡ after_call old };
+
+    ghost loads = { λ old new. new ≡ after_call old };
 
     fn save(&mut self, alloc: Global, bytes: &[u8]) -> Result<MemTicket, DepotError>
         ensures fails { (result ≡ Err DepotError.Failed) ↔ IsTrue (next_fails self.old) }

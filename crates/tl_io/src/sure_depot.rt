@@ -17,7 +17,13 @@ impl SureDepot {
 impl Depot for SureDepot {
     type Ticket = MemTicket;
 
+    ghost use Rattle.std.specs.Prelude.{◌≡◌};
+
     ghost faults = { λ _. 0 };
+
+    ghost saves = { λ old new. new ≡ old };
+
+    ghost loads = { λ old new. new ≡ old };
 
     fn save(&mut self, alloc: Global, bytes: &[u8]) -> Result<MemTicket, DepotError> {
         Ok(MemTicket::new(alloc, bytes)?)

@@ -26,7 +26,7 @@ use Rattle.tl_kind.specs.declared.word.Three.TheVariants as three
 use Rattle.tl_kind.specs.declared.word.Binding.{Binding}
 use Rattle.tl_kind.specs.declared.word.Binding.TheVariants as binding
 use Rattle.tl_kind.specs.Words.{word_text}
-use Rattle.tl_kind.specs.Written.{Part, an_expr, a_name, a_number, a_quote, Written, quote, signed, with_parts, written, map_part, map_written, part_text, parts_text, written_text, written_fits, program_text, spelling, part_fits, fits, is_byte}
+use Rattle.tl_kind.specs.Written.{Part, an_expr, a_name, a_number, a_quote, Written, quote, signed, with_parts, written, map_part, map_written, part_text, parts_text, written_text, written_fits, program_text, spelling, part_fits, fits, is_byte, output_limit}
 use Rattle.tl_kind.specs.Refusals.{Head, job, inner, Sort, expr, name, number, quoted_text, sort_of, sorts, wants, EndsExpr, IsPart, Spot, part, after, Refused, at_first, in_signed, in_number, in_quoted, no_word, unknown_word, after_word, at_once, in_next, after_next, RefusedText, no_form, no_job, other_word, in_outputs, trailing, Spells}
 use Rattle.tl_kind.specs.Reading.{AreParts, IsWord, IsJob, AreOutputs}
 use Rattle.tl_kind.proofs.Trees.{spelling-written, fits-written}
@@ -73,7 +73,7 @@ all_fit (s ∷ ss) room = and_from _ _ (some_fits s room) (all_fit ss room)
 
 -- the greatest number of parts
 abbrev most : Head → ℕ
-most job = 8
+most job = output_limit
 most (inner word.List) = 16
 most (inner w) = length (sorts w)
 
@@ -127,7 +127,7 @@ get_within (x ∷ xs) (suc n) s e = let rest = get_within xs n s e in omega (ari
 
 -- where a part is wanted there is room for it
 wanted_within : (head : Head) (count : ℕ) (s : Sort) → wants head count ≡ Some s → suc count ≤ most head
-wanted_within job count s e = let lt = ltb-true count 8 (some_if (nat_lt count 8) s e) in omega (arith, lt)
+wanted_within job count s e = let lt = ltb-true count output_limit (some_if (nat_lt count output_limit) s e) in omega (arith, lt)
 wanted_within (inner word.List) count s e = let lt = ltb-true count 16 (some_if (nat_lt count 16) s e) in omega (arith, lt)
 wanted_within (inner word.Input) count s e = get_within (sorts word.Input) count s e
 wanted_within (inner word.Key) count s e = get_within (sorts word.Key) count s e
@@ -502,7 +502,7 @@ some_outputs ps (e ∷ es) t is = omega arith
 
 job_can : (front : List ℕ) → Can (after job 0 31) front → CanBegin Spells (40 ∷ codes "job" ++ front)
 job_can front can =
-    let all = all_exprs job 8 (λ count. refl) 0 can.1 can.2 (omega arith) in
+    let all = all_exprs job output_limit (λ count. refl) 0 can.1 can.2 (omega arith) in
     let text : List ℕ = front ++ can.0 in
     let program : Program = record { outputs = all.0 } in
     let stand : AreParts 31 (map an_expr all.0) (front ++ can.0) [] =

@@ -18,7 +18,7 @@ use Rattle.tl_kind.specs.declared.word.Two.TheVariants as two
 use Rattle.tl_kind.specs.declared.word.Three.TheVariants as three
 use Rattle.tl_kind.specs.declared.word.Binding.TheVariants as binding
 use Rattle.tl_kind.specs.Words.{word_text}
-use Rattle.tl_kind.specs.Written.{Part, an_expr, a_name, a_number, a_quote, Written, quote, signed, variable, with_parts, map_part, parts_text, spelling, program_text, is_letter, is_name, written, IsProgram}
+use Rattle.tl_kind.specs.Written.{Part, an_expr, a_name, a_number, a_quote, Written, quote, signed, variable, with_parts, map_part, parts_text, spelling, program_text, is_letter, is_name, written, output_limit, IsProgram}
 use Rattle.tl_kind.specs.Refusals.{Head, job, inner, Sort, expr, name, number, quoted_text, sort_of, wants, spare_part, missing, wrong_after, wrong_first, wrong_word, is_digit, begins_with_digit, begins_signed, begins_quoted, begins_plain, BeginsWithNoLetter, IsPart, Spot, part, after, Refused, at_first, in_signed, in_number, in_quoted, no_word, unknown_word, after_word, at_once, in_next, after_next, IsWhole, RefusedText, no_form, no_job, other_word, in_outputs, trailing, IsRefusedAt}
 use Rattle.tl_kind.specs.Reading.{AreParts, begin_of}
 use Rattle.tl_kind.proofs.Inverse.{Takes}
@@ -272,9 +272,9 @@ never (after_next {head = head} {count = count} {room = room} next {text = text}
 
 -- ---- whole programs
 
-job_takes_parts : (count : ℕ) (es : List Expr) → count + length es ≤ 8 → 0 < count + length es → Takes job count (map an_expr es)
+job_takes_parts : (count : ℕ) (es : List Expr) → count + length es ≤ output_limit → 0 < count + length es → Takes job count (map an_expr es)
 job_takes_parts count [] le some = lt-ltb 0 count (omega arith)
-job_takes_parts count (e ∷ es) le some = (ap (λ (p : Bool). if p then Some expr else None) (lt-ltb count 8 (omega arith)), job_takes_parts (suc count) es (omega arith) (omega arith))
+job_takes_parts count (e ∷ es) le some = (ap (λ (p : Bool). if p then Some expr else None) (lt-ltb count output_limit (omega arith)), job_takes_parts (suc count) es (omega arith) (omega arith))
 
 -- a program is its word and its outputs
 record HasParts (text : List ℕ) (program : Program) (rest : List ℕ) : Type 0 where

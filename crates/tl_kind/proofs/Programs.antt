@@ -12,7 +12,7 @@ use Rattle.tl_kind.specs.declared.lang_error.LangErrorKind.{LangErrorKind}
 use Rattle.tl_kind.specs.declared.lang_error.LangErrorKind.TheVariants.{End, Unexpected, UnknownForm, TooManyOutputs}
 use Rattle.tl_kind.specs.declared.stop.Stop.{Stop}
 use Rattle.tl_kind.specs.Words.{word_text}
-use Rattle.tl_kind.specs.Written.{Part, an_expr, map_part, part_text, parts_text, program_text, spelling, part_fits, fits}
+use Rattle.tl_kind.specs.Written.{Part, an_expr, map_part, part_text, parts_text, program_text, spelling, part_fits, fits, output_limit}
 use Rattle.tl_kind.specs.Refusals.{job, expr, wants, may_end, missing, wrong_after, BeginsWithNoLetter, Spot, after, Refused, at_first, in_signed, in_number, in_quoted, no_word, unknown_word, after_word, at_once, in_next, after_next, IsWhole, RefusedText, no_form, no_job, other_word, in_outputs, trailing}
 use Rattle.tl_kind.specs.Reading.{StopsAs, AreLetters, Misses, refused_first, AreAll, TakesUpTo, IsJob, AreOutputs}
 use Rattle.tl_kind.proofs.Tokens.{stops_more}
@@ -49,13 +49,13 @@ bytes_differ s t e same = let no : ◌≡◌ {A = Bool} true false = e ∙ ap no
 
 -- ---- the outputs
 
-pub job_takes : TakesUpTo job 8
-job_takes count lt = ap (λ (b : Bool). if b then Some expr else None) (lt-ltb count 8 lt)
+pub job_takes : TakesUpTo job output_limit
+job_takes count lt = ap (λ (b : Bool). if b then Some expr else None) (lt-ltb count output_limit lt)
 
-pub refused_outputs : (es : List Expr) (text mid : List ℕ) (count : ℕ) (kind : LangErrorKind) → AreAll 31 8 text es mid → count ≡ length es → wrong_after job count mid ≡ Some kind → Refused (after job 0 31) text mid kind
+pub refused_outputs : (es : List Expr) (text mid : List ℕ) (count : ℕ) (kind : LangErrorKind) → AreAll 31 output_limit text es mid → count ≡ length es → wrong_after job count mid ≡ Some kind → Refused (after job 0 31) text mid kind
 refused_outputs es text mid count kind all size wrong =
     let same : 0 + length es ≡ count = omega arith in
-    several_later job 8 0 31 es text mid mid kind job_takes (omega (arith, all.few)) all.stand (at_once (ap (λ (n : ℕ). wrong_after job n mid) same ∙ wrong))
+    several_later job output_limit 0 31 es text mid mid kind job_takes (omega (arith, all.few)) all.stand (at_once (ap (λ (n : ℕ). wrong_after job n mid) same ∙ wrong))
 
 abbrev no_kind : Option LangErrorKind
 no_kind = None
@@ -75,27 +75,27 @@ some_more : (b : Bool) → b ≡ false → is_some (if b then Some expr else Non
 some_more b e = ap (λ (b : Bool). is_some (if b then Some expr else None)) e
 
 -- after the outputs that were read `)` stands, and there is one at least
-pub outputs_end : (mid : List ℕ) (count : ℕ) → (count ≡ 8) ⊎ IsSome (missing 32 mid) → wrong_after job count mid ≡ None → (mid ≡ 41 ∷ drop 1 mid) × (0 < count)
+pub outputs_end : (mid : List ℕ) (count : ℕ) → (count ≡ output_limit) ⊎ IsSome (missing 32 mid) → wrong_after job count mid ≡ None → (mid ≡ 41 ∷ drop 1 mid) × (0 < count)
 outputs_end [] count all e = absurd (cc)
 outputs_end (byte ∷ bytes) count all e =
-    let full : (nat_lt count 8 ≡ false) ⊎ ((byte == 32) ≡ false) = elim all [
-      | inl at ↦ inl (ap (λ (n : ℕ). nat_lt n 8) at)
+    let full : (nat_lt count output_limit ≡ false) ⊎ ((byte == 32) ≡ false) = elim all [
+      | inl at ↦ inl (ap (λ (n : ℕ). nat_lt n output_limit) at)
       | inr none ↦ inr (missed (byte == 32) none End)
     ] in
-    let wanted : (is_some (wants job count) ≡ false) ⊎ ((byte == 32) ≡ false) = elim full [ inl n ↦ inl (some_more (nat_lt count 8) n) | inr n ↦ inr n ] in
+    let wanted : (is_some (wants job count) ≡ false) ⊎ ((byte == 32) ≡ false) = elim full [ inl n ↦ inl (some_more (nat_lt count output_limit) n) | inr n ↦ inr n ] in
     let both = end_here (byte == 32) (byte == 41) (is_some (wants job count)) (may_end job count) TooManyOutputs wanted e in
     (ap (λ (b : ℕ). b ∷ bytes) (eqb-true byte 41 both.0), ltb-true 0 count both.1)
 
-pub are_outputs : (es : List Expr) (text mid rest : List ℕ) (count : ℕ) → AreAll 31 8 text es mid → count ≡ length es → wrong_after job count mid ≡ None → mid ≡ 41 ∷ rest → AreOutputs text es rest
+pub are_outputs : (es : List Expr) (text mid rest : List ℕ) (count : ℕ) → AreAll 31 output_limit text es mid → count ≡ length es → wrong_after job count mid ≡ None → mid ≡ 41 ∷ rest → AreOutputs text es rest
 are_outputs es text mid rest count all size fine end = record {
-  some = let there = outputs_end mid count (subst (λ n. (n ≡ 8) ⊎ IsSome (missing 32 mid)) (sym size) all.all) fine in omega (arith, there.1);
+  some = let there = outputs_end mid count (subst (λ n. (n ≡ output_limit) ⊎ IsSome (missing 32 mid)) (sym size) all.all) fine in omega (arith, there.1);
   few = all.few;
   stand = several_parts 31 es text mid rest all.stand end;
 }
 
-pub outputs_never : (Q : List ℕ → LangErrorKind → Type 0) (es : List Expr) (text mid rest : List ℕ) (count : ℕ) (s : Stop) → AreAll 31 8 text es mid → count ≡ length es → wrong_after job count mid ≡ None → StopsAs (Misses 41 mid) rest s → StopsAs Q rest s
+pub outputs_never : (Q : List ℕ → LangErrorKind → Type 0) (es : List Expr) (text mid rest : List ℕ) (count : ℕ) (s : Stop) → AreAll 31 output_limit text es mid → count ≡ length es → wrong_after job count mid ≡ None → StopsAs (Misses 41 mid) rest s → StopsAs Q rest s
 outputs_never Q es text mid rest count s all size fine h =
-    let there = outputs_end mid count (subst (λ n. (n ≡ 8) ⊎ IsSome (missing 32 mid)) (sym size) all.all) fine in
+    let there = outputs_end mid count (subst (λ n. (n ≡ output_limit) ⊎ IsSome (missing 32 mid)) (sym size) all.all) fine in
     stops_more (Misses 41 mid) Q rest s (λ kind m. let none : ◌≡◌ {A = Option LangErrorKind} None (Some kind) = ap (missing 41) (sym there.0) ∙ m.1 in absurd (cc)) h
 
 -- ---- whole programs
@@ -117,7 +117,7 @@ whole text after_open after_job rest program es opened is are made = record {
       ∙ ap (λ (fs : List Expr). 40 ∷ codes "job" ++ (parts_text (map (λ e. an_expr (spelling e)) fs) ++ rest)) (sym made)
       ∙ sym (append_assoc (40 ∷ codes "job") (parts_text (map (λ e. an_expr (spelling e)) program.outputs)) rest);
   some = subst (λ fs. 1 ≤ length fs) (sym made) are.some;
-  few = subst (λ fs. length fs ≤ 8) (sym made) are.few;
+  few = subst (λ fs. length fs ≤ output_limit) (sym made) are.few;
   within = subst (λ fs. list_all (λ e. fits e 31) fs ≡ true) (sym made) (sym (exprs_within 31 es) ∙ parts_within 31 (map an_expr es) after_job rest are.stand);
 }
 

@@ -12,7 +12,7 @@ use Rattle.tl_kind.specs.declared.begin.Begin.{Begin}
 use Rattle.tl_kind.specs.declared.begin.Begin.TheVariants as begin
 use Rattle.tl_kind.specs.declared.word.Word.{Word}
 use Rattle.tl_kind.specs.Words.{word_text}
-use Rattle.tl_kind.specs.Written.{Part, an_expr, with_parts, written, is_letter, is_name}
+use Rattle.tl_kind.specs.Written.{Part, an_expr, with_parts, written, is_letter, is_name, output_limit}
 use Rattle.tl_kind.specs.Refusals.{Sort, expr, wants, part, Head, is_digit, begins_quoted, missing, BeginsWithNoLetter, EndsName, IsPart, Refused}
 
 -- the reader stops where the rest begins for this reason, or for want of memory
@@ -97,8 +97,8 @@ pub record IsJob (text rest : List ℕ) : Type 0 where
   pub spelled : text ≡ codes "job" ++ rest
   pub ends : BeginsWithNoLetter rest
 
--- the text is 1 to 8 outputs, each after a space, and `)`, and then the rest
+-- the text is outputs as many as a program may have, each after a space, and `)`, and then the rest
 pub record AreOutputs (text : List ℕ) (es : List Expr) (rest : List ℕ) : Type 0 where
   pub some : 1 ≤ length es
-  pub few : length es ≤ 8
+  pub few : length es ≤ output_limit
   pub stand : AreParts 31 (map an_expr es) text rest

@@ -14,7 +14,7 @@ use Rattle.tl_lang.specs.declared.program.Program.{Program}
 use Rattle.tl_kind.specs.declared.word.Word.{Word}
 use Rattle.tl_kind.specs.declared.word.Word.TheVariants as word
 use Rattle.tl_kind.specs.Words.{word_text}
-use Rattle.tl_kind.specs.Written.{Part, an_expr, a_name, a_number, a_quote, Written, quote, signed, variable, with_parts, written, map_part, part_text, spelling, is_letter, fits, part_fits, program_text}
+use Rattle.tl_kind.specs.Written.{Part, an_expr, a_name, a_number, a_quote, Written, quote, signed, variable, with_parts, written, map_part, part_text, spelling, is_letter, fits, part_fits, program_text, output_limit}
 
 abbrev pub lang_number : LangErrorKind → ℕ
 lang_number End = 1
@@ -59,7 +59,7 @@ sorts word.List = []
 
 -- the part that a form may have after so many
 abbrev pub wants : Head → ℕ → Option Sort
-wants job count = if nat_lt count 8 then Some expr else None
+wants job count = if nat_lt count output_limit then Some expr else None
 wants (inner word.List) count = if nat_lt count 16 then Some expr else None
 wants (inner w) count = slice_get (sorts w) count
 
@@ -187,7 +187,7 @@ pub data Refused : Spot → List ℕ → List ℕ → LangErrorKind → Type 0 w
 pub record IsWhole (text : List ℕ) (program : Program) (rest : List ℕ) : Type 0 where
   pub spelled : text ≡ program_text program ++ rest
   pub some : 1 ≤ length program.outputs
-  pub few : length program.outputs ≤ 8
+  pub few : length program.outputs ≤ output_limit
   pub within : list_all (λ e. fits e 31) program.outputs ≡ true
 
 -- the text is refused, where the rest begins

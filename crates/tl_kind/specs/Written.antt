@@ -159,12 +159,16 @@ written_fits (with_parts w parts) (suc room) = nat_le (length parts) 16 && list_
 abbrev pub fits : Expr → ℕ → Bool
 fits = fold_tree (λ f. written_fits (written f))
 
--- the program is within the limits: its spelling has at most 4,096 bytes, it has 1 to 8 outputs, and
+-- the greatest number of outputs
+abbrev pub output_limit : ℕ
+output_limit = 64
+
+-- the program is within the limits: its spelling has at most 4,096 bytes, it has 1 to 64 outputs, and
 -- parentheses are nested at most 32 deep, of which the program's own is the first
 pub record IsWithin (program : Program) : Type 0 where
   pub short : length (program_text program) ≤ 4096
   pub some : 1 ≤ length program.outputs
-  pub few : length program.outputs ≤ 8
+  pub few : length program.outputs ≤ output_limit
   pub within : list_all (λ e. fits e 31) program.outputs ≡ true
 
 -- the text is the spelling of the program, which is within the limits

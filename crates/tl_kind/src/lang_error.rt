@@ -24,7 +24,7 @@ pub enum LangErrorKind {
     BadQuote,
     /// Bytes follow the program.
     Trailing,
-    /// A space follows the eighth output.
+    /// A space follows the last output that a program may have, the 64th.
     TooManyOutputs,
 }
 

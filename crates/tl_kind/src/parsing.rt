@@ -18,7 +18,7 @@ use tl_lang::{Expr, Items, Program};
 const TEXT_LIMIT: usize = 4_096;
 
 /// The greatest number of outputs.
-const OUTPUT_LIMIT: usize = 8;
+const OUTPUT_LIMIT: usize = 64;
 
 /// How many parentheses may be open at once in an output.
 const ROOM: u8 = 31;

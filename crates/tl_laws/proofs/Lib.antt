@@ -1,2 +1,17 @@
 pub mod TableLaws
 pub mod Ordered
+pub mod Refusals
+pub mod Tickets
+pub mod Permits
+pub mod Actors
+pub mod Apart
+pub mod Numbering
+pub mod Paths
+pub mod FreePaths
+pub mod Growing
+pub mod Shares
+pub mod Order
+pub mod Saves
+pub mod Made
+pub mod Ready
+pub mod Next

@@ -8,8 +8,9 @@ use Rattle.tl_model.specs.Namespace.{Names}
 use Rattle.tl_model.specs.Past.{without_tickets}
 use Rattle.tl_model.specs.History.{names, records, names_of, calls_of}
 use Rattle.tl_model.specs.Rules.{is_lawful, lawful_judge, all_permitted, is_quiet}
-use Rattle.tl_laws.specs.Order.{IsOrdered, all-ordered}
-use Rattle.tl_laws.specs.Tickets.{names-with, records-with}
+use Rattle.tl_laws.specs.Order.{IsOrdered}
+use Rattle.tl_laws.proofs.Order.{all-ordered}
+use Rattle.tl_laws.proofs.Tickets.{names-with, records-with}
 
 pub lawful-ordered : {T : Type 0} (header : Header) (past : List (Event T)) → is_lawful header past ≡ true →
     IsOrdered (names (without_tickets past)) (records (without_tickets past))

@@ -1,11 +1,7 @@
 pub mod Solves
-pub mod Refusals
-pub mod Tickets
-pub mod Permits
 pub mod Numbers
-pub mod Paths
 pub mod Order
-pub mod Saves
 pub mod Made
-pub mod Ready
 pub mod Next
+pub mod Shares
+pub mod Others

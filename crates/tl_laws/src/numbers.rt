@@ -36,5 +36,5 @@ pub fn some_task_is_ready<T>()
     ensures { (header : Header) (past : List (Event T)) → is_lawful header past ≡ true →
         ((made : RecordId) → is_running (without_tickets past) made ≡ false) →
         (i : ℕ) (r : Record) → slice_get (records (without_tickets past)) i ≡ Some r → is_task (without_tickets past) (id_of r) ≡ true →
-        is_some (next (without_tickets past)) ≡ true }
+        is_some (next header.order (without_tickets past)) ≡ true }
 {}

@@ -10,36 +10,17 @@ use Rattle.tl_model.specs.declared.reply.Reply.TheVariants.{Made, Fine, Opened, 
 use Rattle.tl_model.specs.History.{HistoryOf, names_of, record_made, records_of, reply_after, with_call}
 use Rattle.tl_model.specs.Namespace.{Names}
 use Rattle.tl_model.specs.Replies.{count_refusal, inputs_refusal, new_refusal, or_else, outputs_refusal, refuse_where, reply_to}
-use Rattle.tl_laws.specs.Refusals.{unrefused, or_else-refuses, new_refusal-refuses, refuse_where-refuses, inputs-refuse, outputs-refuse}
+use Rattle.tl_ledger.proofs.Added.{put-below, job-below}
 use Rattle.tl_names.specs.Answers.{Tables, IsNamesOf}
 use Rattle.tl_ledger.specs.Following.{Follows}
-
-second-none : (a b : Option Reply) → or_else a b ≡ None → b ≡ None
-second-none None b h = h
-second-none (Some r) b h = absurd (cc)
-
-where-none : (b : Bool) (r : Reply) → refuse_where b r ≡ None → b ≡ false
-where-none true r h = absurd (cc)
-where-none false r h = refl
-
--- what isn't refused for its count has room for one more
-uncounted : (count : ℕ) → count_refusal count ≡ None → count < 1048576
-uncounted count h = leb-false 1048576 count (where-none _ TooMany h)
 
 -- a call that is answered so leaves no more records than there may be
 few-after : {T : Type 0} (names : Names) (count : ℕ) (command : Command T) (reply : Reply) → reply ≡ reply_to names count command → count ≤ 1048576 →
     count + length (record_made reply command names) ≤ 1048576
 few-after names count (Put path len digest ticket) (Made made) is few =
-    let none = unrefused (or_else (new_refusal names path) (count_refusal count)) (record { 0 = count }) made
-    (or_else-refuses (new_refusal names path) (count_refusal count) (new_refusal-refuses names path) (refuse_where-refuses _ TooMany refl)) (sym is) in
-    let less : count < 1048576 = uncounted count (second-none (new_refusal names path) (count_refusal count) none) in omega arith
+    let less : count < 1048576 = put-below names count path len digest ticket made (sym is) in omega arith
 few-after {T} names count (Job core prio inputs outputs) (Made made) is few =
-    let outs = or_else (outputs_refusal names count 0 outputs) (count_refusal count) in
-    let none = unrefused (or_else (inputs_refusal names inputs) outs) (record { 0 = count }) made
-    (or_else-refuses (inputs_refusal names inputs) outs (inputs-refuse names inputs)
-    (or_else-refuses (outputs_refusal names count 0 outputs) (count_refusal count) (outputs-refuse names count 0 outputs) (refuse_where-refuses _ TooMany refl))) (sym is) in
-    let less : count < 1048576 = uncounted count (second-none (outputs_refusal names count 0 outputs) (count_refusal count)
-    (second-none (inputs_refusal names inputs) outs none)) in omega arith
+    let less : count < 1048576 = job-below T names count core prio inputs outputs made (sym is) in omega arith
 few-after names count (Read path prio form) (Made made) is few = omega arith
 few-after names count (Delete path) (Made made) is few = omega arith
 few-after names count (Mkdir path) (Made made) is few = omega arith

@@ -1,24 +1,32 @@
-ghost use Rattle.std.specs.Prelude.{◌≡◌, ◌+◌, ◌-◌, ◌<◌, ◌≤◌, ◌∷◌, [], length, reverse, IfOk, OnOk, OnErr};
-ghost use Rattle.tl_ledger.specs.Naming.{file_found, file_named};
-ghost use Rattle.tl_model.specs.History.{calls_of, names_of, record_made, reply_after};
+ghost use Rattle.std.specs.Prelude.{◌≡◌, ◌+◌, ◌-◌, ◌<◌, ◌≤◌, ◌∷◌, [], true, length, reverse, if◌then◌else◌, None, IfOk, OnOk, OnErr};
+ghost use Rattle.std.specs.Option.{option_copied};
+ghost use Rattle.tl_ledger.specs.Naming.{file_named};
+ghost use Rattle.tl_model.specs.History.{calls_of, names_of, record_at, reply_after};
 ghost use Rattle.tl_model.specs.Journal.{call_count, calls_in};
-ghost use Rattle.tl_model.specs.Namespace.{Names as NameList};
+ghost use Rattle.tl_model.specs.Past.{without_tickets};
+ghost use Rattle.tl_model.specs.Plan.{next};
+ghost use Rattle.tl_model.specs.Residency.{is_kept};
+ghost use Rattle.tl_model.specs.Rules.{all_permitted, lawful_judge};
 ghost use Rattle.tl_names.specs.Answers.{HasFewOutputs};
 
 use crate::copying::copy_reply;
-use std::alloc::{AllocError, Global};
+use crate::parts::{Parts, make_room, note_call};
+use crate::records::{file_named, record_for};
+use std::alloc::Global;
 use std::marker::Model;
 use tl_io::Ticket;
-use tl_model::{Act, Command, Event, Header, Journal, Reply};
-use tl_names::{Found, Names};
+use tl_model::{Act, Command, Event, Header, Journal, Record, Reply};
+use tl_names::Names;
 use tl_types::{Actor, FileId, NoMemory, Path, RecordId};
 
-/// The journal, and the names of its history in tables. Contracts see the header, the events with the newest first,
-/// and how many more may be appended without asking for memory.
+/// The journal, and what is kept in step with it: the names of its history in tables, its records, which
+/// of them are tasks, and which is next. Contracts see the header, the events with the newest first, and
+/// how many more may be appended without asking for memory.
 #[derive(Drop)]
 pub struct Ledger<T: Ticket> {
     journal: Journal<T>,
     names: Names,
+    parts: Parts,
     // The number of the next record.
     next: RecordId,
 }
@@ -29,6 +37,7 @@ impl<T: Ticket> Model for Ledger<T> {
     ghost use Rattle.tl_model.specs.History.{calls_of};
     ghost use Rattle.tl_model.specs.Journal.{Ledger as Events};
     ghost use Rattle.tl_ledger.specs.Following.{Follows};
+    ghost use Rattle.tl_ledger.specs.Parts.{FollowPast};
 
     ghost Value = { Events T };
 
@@ -36,7 +45,8 @@ impl<T: Ticket> Model for Ledger<T> {
 
     ghost view = { λ l. record { header = l.journal.header; events = l.journal.events; spare = l.journal.spare } };
 
-    ghost invariant = { λ l. Follows l.names l.next.0 (calls_of l.journal.events) };
+    ghost invariant = { λ l. Follows l.names l.next.0 (calls_of l.journal.events)
+        × FollowPast l.parts l.journal.header l.journal.events };
 }
 
 impl<T: Ticket> Ledger<T> {
@@ -49,12 +59,13 @@ impl<T: Ticket> Ledger<T> {
         Ok(Ledger {
             journal: Journal::new(alloc, header),
             names: Names::new(alloc)?,
+            parts: Parts::new(alloc, header),
             next: RecordId(0),
         })
     }
 
     /// Makes room for `n` more events at least.
-    pub fn reserve(&mut self, n: usize) -> Result<(), AllocError>
+    pub fn reserve(&mut self, n: usize) -> Result<(), NoMemory>
         ensures room { OnOk result (n ≤ self.new.spare) }
         ensures never_less { self.old.spare ≤ self.new.spare }
         ensures events { self.new.events ≡ self.old.events }
@@ -91,7 +102,25 @@ impl<T: Ticket> Ledger<T> {
     pub fn file_named(&self, path: &Path) -> Option<FileId>
         ensures { result ≡ file_named (names_of (calls_of self.now.events)) path.now }
     {
-        file_found(self.names.resolve(path))
+        file_named(&self.names, path)
+    }
+
+    /// The record that is next, where all the events are permitted. It changes nothing that contracts see.
+    pub fn next(&mut self) -> Option<RecordId>
+        ensures next { all_permitted lawful_judge self.old.header self.old.events ≡ true →
+            result ≡ next self.old.header.order (without_tickets self.old.events) }
+        ensures same { self.new ≡ self.old }
+    {
+        self.parts.next()
+    }
+
+    /// The record of a number, while it is kept, where all the events are permitted.
+    pub fn record(&self, made: RecordId) -> Option<&Record>
+        ensures { all_permitted lawful_judge self.now.header self.now.events ≡ true →
+            option_copied result ≡ (if is_kept (without_tickets self.now.events) made
+            then record_at (without_tickets self.now.events) made else None) }
+    {
+        self.parts.record(made)
     }
 
     /// Appends an event that is no call, for which there must be room.
@@ -102,6 +131,8 @@ impl<T: Ticket> Ledger<T> {
         ensures spare { self.new.spare ≡ self.old.spare - 1 }
         ensures header { self.new.header ≡ self.old.header }
     {
+        let _count = self.journal.len();
+        self.parts.note(&event);
         self.journal.append(event);
     }
 
@@ -122,35 +153,18 @@ impl<T: Ticket> Ledger<T> {
         ensures header { self.new.header ≡ self.old.header }
         ensures err { OnErr result (self.new ≡ self.old) }
     {
+        let number = self.journal.calls();
+        let _count = self.journal.len();
+        let rec = record_for(alloc, &self.names, self.next, &command)?;
+        make_room(alloc, &mut self.parts, &rec)?;
         let reply = self.names.apply(alloc, &command, self.next)?;
         let answer = copy_reply(alloc, &reply)?;
-        let number = self.journal.calls();
-        self.next = next_after(self.next, &reply, &command);
-        self.journal.append(Event {
+        let event = Event {
             actor,
             act: Act::Call(command, reply),
-        });
+        };
+        self.next = note_call(&mut self.parts, self.next, &event, rec);
+        self.journal.append(event);
         Ok((number, answer))
-    }
-}
-
-// The file that was found, if it is one.
-fn file_found(found: Found) -> Option<FileId>
-    ensures { result ≡ file_found found }
-{
-    match found {
-        Found::File { file, .. } => Some(file),
-        _ => None,
-    }
-}
-
-// The number of the next record after this call.
-fn next_after<T>(next: RecordId, reply: &Reply, command: &Command<T>) -> RecordId
-    requires { next.0 ≤ 1048576 }
-    ensures { (names : NameList) → result.0 ≡ next.0 + length (record_made reply.now command.now names) }
-{
-    match (reply, command) {
-        (Reply::Made(_), Command::Put { .. } | Command::Job { .. }) => RecordId(next.0 + 1),
-        _ => next,
     }
 }

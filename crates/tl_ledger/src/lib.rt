@@ -1,7 +1,10 @@
-//! The journal with the names of its history beside it in tables, so that a call costs as its path is long.
+//! The journal, with what is kept in step with it: the names of its history in tables, so that a call
+//! costs as its path is long; its records; which of them are tasks; and which is next.
 #![tactic(auto)]
 
 mod copying;
 mod ledger;
+mod parts;
+mod records;
 
 pub use ledger::Ledger;

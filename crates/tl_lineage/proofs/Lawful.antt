@@ -12,7 +12,7 @@ use Rattle.tl_model.specs.History.{names, record_at, record_made, records}
 use Rattle.tl_model.specs.Residency.{is_collected, is_kept}
 use Rattle.tl_model.specs.Needs.{is_needed}
 use Rattle.tl_model.specs.Rules.{Judge, all_permitted, broken, is_permitted}
-use Rattle.tl_laws.specs.Permits.{permitted_of}
+use Rattle.tl_laws.proofs.Permits.{permitted_of}
 use Rattle.tl_lineage.specs.declared.slot.Slot.{Slot}
 use Rattle.tl_lineage.specs.Standing.{is_gone, slot_of, slots_of, Stand}
 use Rattle.tl_lineage.proofs.Stands.{next-stands}

@@ -1,5 +1,5 @@
 -- The namespace: what each path names.
-use Rattle.std.specs.Prelude.{ℕ, ◌+◌, ◌-◌, ◌==◌, Bool, true, false, ◌&&◌, not, List, [], ◌∷◌, ◌++◌, length, map, filter, take, drop, Option, if◌then◌else◌}
+use Rattle.std.specs.Prelude.{ℕ, ◌+◌, ◌-◌, ◌==◌, Bool, true, false, ◌&&◌, not, List, [], ◌∷◌, ◌++◌, length, map, filter, take, drop, Option, is_some, if◌then◌else◌}
 use Rattle.std.specs.List.{starts_with}
 use Rattle.std.specs.Map.{lookup}
 use Rattle.std.specs.Str.{bytes_eq}
@@ -16,7 +16,7 @@ pub data Node : Type 0 where
   dir : Node
   file : FileId → (pinned : Bool) → Node
 
--- a finite map from paths to nodes, as a list of its pairs; of one path the first counts
+-- a finite map from paths to nodes, as a list of its pairs, of which no two have one path
 abbrev pub Names : Type 0
 Names = List (PathOf × Node)
 
@@ -54,11 +54,12 @@ children names path = filter (λ entry. is_child path entry.0) names
 
 -- ---- changes
 
-abbrev pub with_name : Names → PathOf → Node → Names
-with_name names path node = (path, node) ∷ names
-
 abbrev pub without_name : Names → PathOf → Names
 without_name names path = filter (λ entry. not (path_same path entry.0)) names
+
+-- a new pair takes the place of an old one of its path
+abbrev pub with_name : Names → PathOf → Node → Names
+with_name names path node = (path, node) ∷ without_name names path
 
 -- the outputs of a record, from number k on, each unpinned
 abbrev pub with_outputs : Names → RecordId → ℕ → List PathOf → Names
@@ -69,8 +70,15 @@ with_outputs names made k (path ∷ paths) = with_outputs (with_name names path 
 abbrev pub moved : PathOf → PathOf → PathOf → PathOf
 moved from to path = if is_below path from then to ++ drop (length from) path else path
 
+-- a pair that stays, but whose path is that of one that moves
+abbrev pub is_replaced : Names → PathOf → PathOf → PathOf → Bool
+is_replaced names from to path =
+    not (is_below path from) && is_below path to && is_some (node_at names (moved to from path))
+
+-- a moved pair takes the place of an old one of its path
 abbrev pub with_moved : Names → PathOf → PathOf → Names
-with_moved names from to = map (λ entry. (moved from to entry.0, entry.1)) names
+with_moved names from to =
+    map (λ entry. (moved from to entry.0, entry.1)) (filter (λ entry. not (is_replaced names from to entry.0)) names)
 
 abbrev pub with_pin : Bool → Node → Node
 with_pin pinned dir = dir

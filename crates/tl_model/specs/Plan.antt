@@ -1,9 +1,13 @@
 -- The plan: which jobs must be run, which wait for which, and which is next.
-use Rattle.std.specs.Prelude.{ℕ, nat_lt, max, Bool, false, ◌&&◌, ◌||◌, not, List, [], ◌∷◌, map, filter, Option, Some, None, option_map, if◌then◌else◌}
-use Rattle.std.specs.List.{list_any}
+use Rattle.std.specs.Prelude.{ℕ, ◌+◌, ◌*◌, ◌==◌, nat_lt, max, Bool, false, ◌&&◌, ◌||◌, not, List, [], ◌∷◌, map, filter, Option, Some, None, option_map, if◌then◌else◌}
+use Rattle.std.specs.List.{list_any, find}
 use Rattle.tl_types.specs.Same.{record_same, file_same}
 use Rattle.tl_types.specs.declared.file_id.FileId.{FileId}
 use Rattle.tl_types.specs.declared.record_id.RecordId.{RecordId}
+use Rattle.tl_model.specs.declared.event.Act.{Act}
+use Rattle.tl_model.specs.declared.event.Act.TheVariants.{Claim}
+use Rattle.tl_model.specs.declared.header.OrderRule.{OrderRule}
+use Rattle.tl_model.specs.declared.header.OrderRule.TheVariants.{Strict, Shares}
 use Rattle.tl_model.specs.declared.record.Record.{Record}
 use Rattle.tl_model.specs.Past.{Past}
 use Rattle.tl_model.specs.Tables.{Table, downward, answer_at, chosen, first_by}
@@ -96,10 +100,42 @@ ready past = filter (can_run past) (records past)
 abbrev pub is_ready : Past → RecordId → Bool
 is_ready past made = list_any (has_id made) (ready past)
 
--- of a greater priority; records stand in order, so that among equals the least number is first
-abbrev pub goes_before : Past → Record → Record → Bool
-goes_before past s r = nat_lt (prio past (id_of r)) (prio past (id_of s))
+-- ---- whose turn it is
 
--- the ready record of greatest priority, and among these of the least number
-abbrev pub next : Past → Option RecordId
-next past = option_map id_of (first_by (goes_before past) (ready past))
+-- how many claims were of a record that had this priority then
+abbrev pub claims_after : Past → Act (Unit {0}) → ℕ → ℕ → ℕ
+claims_after past (Claim worker made) p before = if prio past made == p then before + 1 else before
+claims_after past _ p before = before
+
+abbrev pub claims : Past → ℕ → ℕ
+claims [] p = 0
+claims (e ∷ past) p = claims_after past e.act p (claims past p)
+
+-- one priority got less of its share than another: `(claims + 1) / (priority + 1)` is less
+abbrev pub got_less : Past → ℕ → ℕ → Bool
+got_less past p q = nat_lt ((claims past p + 1) * (q + 1)) ((claims past q + 1) * (p + 1))
+
+-- one priority has its turn before another: under strict order the greater has; under shares that which got less of its
+-- share, and where none did the greater
+abbrev pub has_turn_before : OrderRule → Past → ℕ → ℕ → Bool
+has_turn_before Strict past p q = nat_lt q p
+has_turn_before Shares past p q = got_less past p q || not (got_less past q p) && nat_lt q p
+
+abbrev pub prio_of : Past → Record → ℕ
+prio_of past r = prio past (id_of r)
+
+-- the priority that has its turn, where some record is ready
+abbrev pub level : OrderRule → Past → Option ℕ
+level order past = first_by (has_turn_before order past) (map (prio_of past) (ready past))
+
+abbrev pub has_prio : Past → ℕ → Record → Bool
+has_prio past p r = prio_of past r == p
+
+-- the ready record of this priority, and among these of the least number
+abbrev pub first_at : Past → Option ℕ → Option RecordId
+first_at past None = None
+first_at past (Some p) = option_map id_of (find (has_prio past p) (ready past))
+
+-- the ready record of least number among those whose priority has its turn
+abbrev pub next : OrderRule → Past → Option RecordId
+next order past = first_at past (level order past)

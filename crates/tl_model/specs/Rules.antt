@@ -168,6 +168,10 @@ pays ToDrop actor _ = false
 abbrev pub is_client : Actor → Bool
 is_client actor = nat_lt actor.0 8
 
+-- actors 0 to 7 are clients, 8 to 15 the crew
+abbrev pub is_actor : Actor → Bool
+is_actor actor = nat_lt actor.0 16
+
 abbrev pub is_known_worker : Header → WorkerId → Bool
 is_known_worker header worker = nat_lt worker.0 header.workers
 
@@ -215,7 +219,7 @@ is_permitted judge header events past actor (Call command reply) =
     is_client actor && is_idle past actor && judge.put_fits command && reply_same (reply_after (calls_of events) command) reply
 is_permitted judge header events past actor (Served f digest) = reads_file f (open_read past actor) && is_resident past f && judge.serves events f digest
 is_permitted judge header events past actor (Shut f) = reads_file f (open_read past actor)
-is_permitted judge header events past actor (Claim worker made) = is_known_worker header worker && may_claim past actor && is_record (next past) made
+is_permitted judge header events past actor (Claim worker made) = is_known_worker header worker && may_claim past actor && is_record (next header.order past) made
 is_permitted judge header events past actor (Done worker made) = is_open_on (open_claim past actor) worker made
 is_permitted judge header events past actor (Back made) = claims_record made (open_claim past actor)
 is_permitted judge header events past actor (Lose worker) = is_known_worker header worker
@@ -250,11 +254,16 @@ rule_of (Collect made) = 14
 abbrev pub owed_rule : ℕ
 owed_rule = 15
 
+-- an actor that there is, and the rule of the event's kind permits it
+abbrev pub may_follow : {T : Type 0} → Judge T → Header → List (Event T) → Event T → Bool
+may_follow judge header past e =
+    is_actor e.actor && is_permitted judge header past (without_tickets past) e.actor e.act
+
 -- the rule that refuses an event after a past: what is owed is asked first
 abbrev pub broken : {T : Type 0} → Judge T → Header → List (Event T) → Event T → Option ℕ
 broken judge header past e =
     if not (pays (owed judge past) e.actor e.act) then Some owed_rule
-    else (if is_permitted judge header past (without_tickets past) e.actor e.act then None else Some (rule_of e.act))
+    else (if may_follow judge header past e then None else Some (rule_of e.act))
 
 -- ---- journals
 

@@ -4,8 +4,9 @@ ghost use Rattle.tl_model.specs.Journal.{event_at, call_count, calls_in};
 
 use crate::event::{Act, Event};
 use crate::header::Header;
-use std::alloc::{AllocError, Global};
+use std::alloc::Global;
 use std::marker::Model;
+use tl_types::NoMemory;
 
 /// All events of a run. Contracts see the header, the events with the newest first, and how many
 /// more may be appended without asking for memory.
@@ -49,7 +50,7 @@ impl<T> Journal<T> {
     }
 
     /// Makes room for `n` more events at least.
-    pub fn reserve(&mut self, n: usize) -> Result<(), AllocError>
+    pub fn reserve(&mut self, n: usize) -> Result<(), NoMemory>
         ensures room { OnOk result (n ≤ self.new.spare) }
         ensures never_less { self.old.spare ≤ self.new.spare }
         ensures events { self.new.events ≡ self.old.events }

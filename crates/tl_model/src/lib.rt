@@ -18,7 +18,7 @@ pub use answer::{Answer, ClientError, Counted, Damage};
 pub use command::{Command, Form};
 pub use event::{Act, Event};
 pub use facts::Facts;
-pub use header::Header;
+pub use header::{Header, OrderRule, Version};
 pub use journal::Journal;
 pub use record::Record;
 pub use reply::{Entry, Reply, Status};

@@ -6,6 +6,8 @@ const HEADER: Header = Header {
     workers: 1,
     capacity: 100,
     hot: 3,
+    order: OrderRule::Strict,
+    version: Version::One,
 };
 
 #[test]

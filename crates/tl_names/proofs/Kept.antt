@@ -52,11 +52,11 @@ stands_changed old new names after path o stands leaf changed = record { found =
         let off : q ≡ path → ⊥ = λ same. true≢false (sym ((path_same-Decides q path).1 same) ∙ apart) in
         leaf.others q off ∙ stands.found q ∙ sym (changed.others q off)
 
-pub name_added : (names : Names) (path : PathOf) (node : Node) → HasEachOnce names → node_at names path ≡ None → NamesChanged names (with_name names path node) path (Some node)
-name_added names path node once absent = record {
-  here = cond-true (path_same path path) (Some node) (node_at names path) (same_path path);
-  others = λ q apart. cond-false (path_same q path) (Some node) (node_at names q) (paths_apart q path apart);
-  once = (absent, once);
+pub name_added : (names : Names) (path : PathOf) (node : Node) → HasEachOnce names → NamesChanged names (with_name names path node) path (Some node)
+name_added names path node once = record {
+  here = cond-true (path_same path path) (Some node) (node_at (without_name names path) path) (same_path path);
+  others = λ q apart. cond-false (path_same q path) (Some node) (node_at (without_name names path) q) (paths_apart q path apart) ∙ without_apart path q names apart;
+  once = (without_here path names, without_once path names once);
 }
 
 pub name_removed : (names : Names) (path : PathOf) → HasEachOnce names → NamesChanged names (without_name names path) path None

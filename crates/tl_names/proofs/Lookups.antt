@@ -1,11 +1,12 @@
 -- What a path names after a change of the list of names.
 use Rattle.std.proofs.Common.{◌≡◌, Bool, true, false, cond, [], ◌∷◌, Some, None, refl, sym, ap, ◌∙◌}
-use Rattle.std.specs.Prelude.{not}
+use Rattle.std.specs.Prelude.{not, ◌&&◌, filter, is_some, map}
+use Rattle.std.specs.List.{AllByRecursion}
 use Rattle.std.specs.Option.{option_map}
-use Rattle.std.proofs.lemmas.Bool.{cond-false, true≢false}
+use Rattle.std.proofs.lemmas.Bool.{and_left, and_right, cond-false, true≢false}
 use Rattle.std.proofs.lemmas.Option.{none-some}
 use Rattle.tl_types.specs.Same.{path_same, path_same-Decides}
-use Rattle.tl_model.specs.Namespace.{PathOf, Node, Names, node_at, without_name, with_pin, with_pinned}
+use Rattle.tl_model.specs.Namespace.{PathOf, Node, Names, is_below, is_replaced, moved, node_at, without_name, with_moved, with_pin, with_pinned}
 use Rattle.tl_names.specs.Standing.{HasEachOnce}
 use Rattle.tl_names.proofs.Below.{paths_apart}
 
@@ -52,6 +53,36 @@ without_once p (e ∷ es) once = by (path_same p e.0) (without_once p es once.1)
     by : (b : Bool) → HasEachOnce (without_name es p) → HasEachOnce (cond (not b) (e ∷ without_name es p) (without_name es p))
     by true more = more
     by false more = (without_absent p e.0 es once.0, more)
+
+-- where nothing has the path none is taken away
+pub without_none : (p : PathOf) (names : Names) → node_at names p ≡ None → without_name names p ≡ names
+without_none p [] absent = refl
+without_none p (e ∷ es) absent =
+    let parts : (path_same p e.0 ≡ false) × (node_at es p ≡ None) = absent_head p e es absent in
+    ap (λ b. cond (not b) (e ∷ without_name es p) (without_name es p)) parts.0 ∙ ap (λ rest. e ∷ rest) (without_none p es parts.1)
+
+-- ---- names moved
+
+-- each pair with its path moved
+abbrev pub moved_all : PathOf → PathOf → Names → Names
+moved_all from to names = map (λ entry. (moved from to entry.0, entry.1)) names
+
+abbrev pub NoneBelow : PathOf → Names → Type 0
+NoneBelow to names = AllByRecursion (λ e. is_below e.0 to ≡ false) names
+
+not_replaced : (from to p : PathOf) (all : Names) → is_below p to ≡ false → is_replaced all from to p ≡ false
+not_replaced from to p all off =
+    and_left (not (is_below p from) && is_below p to) (is_some (node_at all (moved to from p))) (and_right (not (is_below p from)) (is_below p to) off)
+
+none_taken : (from to : PathOf) (all es : Names) → NoneBelow to es → filter (λ entry. not (is_replaced all from to entry.0)) es ≡ es
+none_taken from to all [] none = refl
+none_taken from to all (e ∷ es) none =
+    let rest : Names = filter (λ entry. not (is_replaced all from to entry.0)) es in
+    ap (λ b. cond (not b) (e ∷ rest) rest) (not_replaced from to e.0 all none.0) ∙ ap (λ rest. e ∷ rest) (none_taken from to all es none.1)
+
+-- where nothing stands at the new place or below it no pair is replaced
+pub none_replaced : (from to : PathOf) (names : Names) → NoneBelow to names → with_moved names from to ≡ moved_all from to names
+none_replaced from to names none = ap (moved_all from to) (none_taken from to names names none)
 
 -- ---- a pin set or cleared
 

@@ -20,7 +20,14 @@ use Rattle.tl_names.proofs.Trees.{set_apart, set_known, tree_changed}
 -- the tables follow a new name
 pub record Makes (old new : Dirs) (path : PathOf) (node : Node) : Type 0 where
   pub tree : IsTree new
+  pub free : (names : Names) → StandsFor old names → node_at names path ≡ None
   pub stands : (names : Names) → StandsFor old names → StandsFor new (with_name names path node)
+
+-- where there is room for a name none stands
+pub room_free : (dirs : Dirs) (path : PathOf) (d : ℕ) → RoomAt dirs path d → (names : Names) → StandsFor dirs names → node_at names path ≡ None
+room_free dirs path d room names stands =
+    sym (stands.found path) ∙ ap (node_in dirs) (sym room.again)
+    ∙ ap node_found (below_place dirs (parent path) (last_part path) d room.above ∙ ap found_child room.new)
 
 new_leaf : (old new : Dirs) (above path : PathOf) (d : ℕ) (n : List ℕ) (x : Child) → IsTree old → place old above ≡ Ok (Dir d) → above ++ n ∷ [] ≡ path →
     OneChanged old new d n → child_at old d n ≡ None → child_at new d n ≡ Some x → IsLeaf new (Some x) →
@@ -29,10 +36,7 @@ new_leaf old new above path d n x tree at again one was is leaf names stands =
     stands_changed old new names (with_name names path (node_of x)) path (child_at new d n) stands
     (subst (λ p. LeafChanged old new p (child_at new d n)) again
     (leaf_changed old new above d n tree at one (subst (IsLeaf old) (sym was) (no_leaf old)) (subst (IsLeaf new) (sym is) leaf)))
-    (subst (λ o. NamesChanged names (with_name names path (node_of x)) path (node_found (found_child o))) (sym is) (name_added names path (node_of x) stands.once absent))
-  where
-    absent : node_at names path ≡ None
-    absent = sym (stands.found path) ∙ ap (node_in old) (sym again) ∙ ap node_found (below_place old above n d at ∙ ap found_child was)
+    (subst (λ o. NamesChanged names (with_name names path (node_of x)) path (node_found (found_child o))) (sym is) (name_added names path (node_of x) stands.once))
 
 put_there : (dirs : Dirs) (path : PathOf) (d : ℕ) (x : Child) → place dirs (parent path) ≡ Ok (Dir d) → put_at dirs path x ≡ with_child dirs d (last_part path) x
 put_there dirs path d x at = ap (put_in dirs (last_part path) x) at
@@ -41,6 +45,7 @@ pub file_makes : (dirs : Dirs) → IsTree dirs → (path : PathOf) (d : ℕ) (f 
 file_makes dirs tree path d f b room = record {
   tree = tree_changed dirs new d (last_part path) tree one (λ e known. set_known dirs d e _ known) (with_ascends dirs d (last_part path) (File f b) tree known)
       (record { known = λ k is. absurd (not_dir k (sym here ∙ is)); below = λ is. not_dir 0 (sym here ∙ is); alone = λ c k m is apart also. not_dir k (sym here ∙ is) });
+  free = room_free dirs path d room;
   stands = λ names stands. new_leaf dirs new (parent path) path d (last_part path) (File f b) tree room.above room.again one room.new here (file_leaf new (File f b) (Some (File f b)) refl (λ k is. cc)) names stands;
 }
   where
@@ -75,6 +80,7 @@ makes_dir old new tree path d found made = record {
         below = λ is. vacant (subst (IsKnown old) (sym (dir_is 0 (sym here ∙ is))) tree.root);
         alone = λ c k m is apart also. vacant (subst (IsKnown old) (sym (dir_is k (sym here ∙ is))) (tree.known c k m also));
       });
+  free = room_free old path d room;
   stands = λ names stands. new_leaf old new (parent path) path d (last_part path) (Dir made.number) tree room.above room.again one room.new here (empty_leaf new made.number empty) names stands;
 }
   where

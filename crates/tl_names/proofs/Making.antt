@@ -18,6 +18,7 @@ use Rattle.tl_names.specs.Pins.{MakesFiles, PinList, PinsStandFor}
 use Rattle.tl_names.specs.Standing.{StandsFor}
 use Rattle.tl_names.specs.Tables.{Dirs, file_of, first_refusal, place, room_for, IsTree, MakesDir}
 use Rattle.tl_names.proofs.Answered.{file_refuses, file_same_walk, kept_answers, names_kept, no_record, room_refuses, same_count}
+use Rattle.tl_names.proofs.Lookups.{without_none}
 use Rattle.tl_names.proofs.Made.{Makes, makes_dir}
 use Rattle.tl_names.proofs.Outputs.{begins_upto, ends_upto, output_node}
 use Rattle.tl_names.proofs.Replied.{room_same}
@@ -43,7 +44,8 @@ mkdir_made old new tree path none made pins count =
     record {
       said = λ names stands. sym (ap (λ o. unless o Fine) (room_same old names stands path ∙ ap refusal_of room.1));
       names = λ names stands. makes.stands names stands;
-      pins = λ names stands stand. same_count pins (with_name names path dir) count [] refl (record { found = stand.found; once = (tt, stand.once); made = stand.made });
+      pins = λ names stands stand. same_count pins (with_name names path dir) count [] refl
+          (subst (λ rest. PinsStandFor pins ((path, dir) ∷ rest) count) (sym (without_none path names (makes.free names stands))) (record { found = stand.found; once = (tt, stand.once); made = stand.made }));
       unchanged = λ no. absurd (true≢false no);
       tree = makes.tree;
     }
@@ -130,7 +132,7 @@ put_made old new pins after path paths next is none makes len digest = record {
   names = λ names stands. subst (λ ps. StandsFor new (with_outputs names next 0 ps)) is (makes.stands names stands);
   pins = λ names stands stand.
       subst (λ ps. PinsStandFor after (with_outputs names next 0 ps) (next.0 + 1)) is
-      (ends_upto after (with_outputs names next 0 paths) next.0 (0 + length paths) (makes.files names (begins_upto pins names next.0 stand)));
+      (ends_upto after (with_outputs names next 0 paths) next.0 (0 + length paths) (makes.files names stands (begins_upto pins names next.0 stand)));
   unchanged = λ no. absurd (true≢false no);
   tree = makes.tree;
 }
@@ -173,7 +175,7 @@ job_made old new pins after inputs outputs next no_input none makes core prio = 
   said = λ names stands. sym (ap (λ o. unless (or_else o (or_else (outputs_refusal names next.0 0 outputs) (count_refusal next.0))) (Made next)) (inputs_same old names stands inputs ∙ sym no_input)
       ∙ ap (λ o. unless o (Made next)) (sym (none names stands)));
   names = λ names stands. makes.stands names stands;
-  pins = λ names stands stand. ends_upto after (with_outputs names next 0 outputs) next.0 (0 + length outputs) (makes.files names (begins_upto pins names next.0 stand));
+  pins = λ names stands stand. ends_upto after (with_outputs names next 0 outputs) next.0 (0 + length outputs) (makes.files names stands (begins_upto pins names next.0 stand));
   unchanged = λ no. absurd (true≢false no);
   tree = makes.tree;
 }

@@ -1,6 +1,6 @@
 -- Names after a move.
 use Rattle.std.proofs.Common.{◌≡◌, ℕ, ◌+◌, ◌-◌, ◌<◌, ◌≤◌, suc, Bool, true, false, cond, List, [], ◌∷◌, ◌++◌, length, drop, Some, None, Result, Ok, Err, refl, sym, ap, ◌∙◌, subst, inl, inr, ◌⊎◌, arith, length-append, append_assoc}
-use Rattle.std.specs.List.{list_any, AllByRecursion}
+use Rattle.std.specs.List.{list_any}
 use Rattle.std.specs.BTreeMap.{insert_entry}
 use Rattle.std.specs.Cmp.Lexicographic.{slice_cmp}
 use Rattle.std.specs.Map.{remove_entry}
@@ -30,7 +30,7 @@ use Rattle.tl_names.proofs.Ascending.{Ascends, removed_ascends}
 use Rattle.tl_names.proofs.Below.{below_from, below_rest, is_below-append, not_below, paths_apart}
 use Rattle.tl_names.proofs.Changes.{OneChanged}
 use Rattle.tl_names.proofs.Kept.{child_set, set_one, unset_one, with_ascends}
-use Rattle.tl_names.proofs.Lookups.{absent_head}
+use Rattle.tl_names.proofs.Lookups.{NoneBelow, absent_head, moved_all, none_replaced}
 use Rattle.tl_names.proofs.Movable.{is_deep, moved_below, not_deep}
 use Rattle.tl_names.proofs.Pinned.{moved_any, moved_files_once}
 use Rattle.tl_names.proofs.Places.{SameOff, below_place, known_place, same_walk, unique_path, walk_append}
@@ -74,9 +74,6 @@ moved_off from to q e q_in q_off = paths_apart q (moved from to e) (λ same. by 
 
 -- ---- the list of names
 
-abbrev NoneBelow : PathOf → Names → Type 0
-NoneBelow to names = AllByRecursion (λ e. is_below e.0 to ≡ false) names
-
 none_below : (to : PathOf) (es : Names) → ((q : PathOf) → is_below q to ≡ true → node_at es q ≡ None) → NoneBelow to es
 none_below to [] none = tt
 none_below to (e ∷ es) none = (by (is_below e.0 to) refl, none_below to es (λ q below. (absent_head q e es (none q below)).1))
@@ -85,17 +82,17 @@ none_below to (e ∷ es) none = (by (is_below e.0 to) refl, none_below to es (λ
     by false is = refl
     by true is = absurd (none-some e.1 (sym (none e.0 is) ∙ cond-true (path_same e.0 e.0) (Some e.1) (node_at es e.0) ((path_same-Decides e.0 e.0).1 refl)))
 
-moved_at : (from to p : PathOf) (es : Names) → NoneBelow to es → is_below p to ≡ false → node_at (with_moved es from to) (moved from to p) ≡ node_at es p
+moved_at : (from to p : PathOf) (es : Names) → NoneBelow to es → is_below p to ≡ false → node_at (moved_all from to es) (moved from to p) ≡ node_at es p
 moved_at from to p [] none off = refl
 moved_at from to p (e ∷ es) none off =
-    ap (λ b. cond b (Some e.1) (node_at (with_moved es from to) (moved from to p))) (moved_same from to p e.0 off none.0) ∙ ap (cond (path_same p e.0) (Some e.1)) (moved_at from to p es none.1 off)
+    ap (λ b. cond b (Some e.1) (node_at (moved_all from to es) (moved from to p))) (moved_same from to p e.0 off none.0) ∙ ap (cond (path_same p e.0) (Some e.1)) (moved_at from to p es none.1 off)
 
-moved_left : (from to q : PathOf) (es : Names) → is_below q from ≡ true → is_below q to ≡ false → node_at (with_moved es from to) q ≡ None
+moved_left : (from to q : PathOf) (es : Names) → is_below q from ≡ true → is_below q to ≡ false → node_at (moved_all from to es) q ≡ None
 moved_left from to q [] q_in q_off = refl
 moved_left from to q (e ∷ es) q_in q_off =
-    cond-false (path_same q (moved from to e.0)) (Some e.1) (node_at (with_moved es from to) q) (moved_off from to q e.0 q_in q_off) ∙ moved_left from to q es q_in q_off
+    cond-false (path_same q (moved from to e.0)) (Some e.1) (node_at (moved_all from to es) q) (moved_off from to q e.0 q_in q_off) ∙ moved_left from to q es q_in q_off
 
-moved_each_once : (from to : PathOf) (es : Names) → NoneBelow to es → HasEachOnce es → HasEachOnce (with_moved es from to)
+moved_each_once : (from to : PathOf) (es : Names) → NoneBelow to es → HasEachOnce es → HasEachOnce (moved_all from to es)
 moved_each_once from to [] none once = tt
 moved_each_once from to (e ∷ es) none once = (moved_at from to e.0 es none.1 none.0 ∙ once.0, moved_each_once from to es none.1 once.1)
 
@@ -224,28 +221,31 @@ module _ (old new : Dirs) (from to : PathOf) (x : Child) (d e : ℕ) (move : Mov
       ∙ same_below s
       ∙ sym (walk_append old from s (Dir 0) ∙ ap (λ r. and_then r (walk_from old s)) move.at)
 
+  pub none_there : (names : Names) → StandsFor old names → NoneBelow to names
+  none_there names stands = none_below to names (λ q below. sym (stands.found q) ∙ ap node_found (ap (place old) (below_rest q to below) ∙ absent_below (drop (length to) q)))
+
   pub moved_stands : (names : Names) → StandsFor old names → StandsFor new (with_moved names from to)
-  moved_stands names stands = record { found = λ q. by q (is_below q to) refl; once = moved_each_once from to names none stands.once }
+  moved_stands names stands = subst (StandsFor new) (sym (none_replaced from to names none)) (record { found = λ q. by q (is_below q to) refl; once = moved_each_once from to names none stands.once })
     where
       none : NoneBelow to names
-      none = none_below to names (λ q below. sym (stands.found q) ∙ ap node_found (ap (place old) (below_rest q to below) ∙ absent_below (drop (length to) q)))
+      none = none_there names stands
 
-      there : (q s : PathOf) → q ≡ to ++ s → node_in new q ≡ node_at (with_moved names from to) q
+      there : (q s : PathOf) → q ≡ to ++ s → node_in new q ≡ node_at (moved_all from to names) q
       there q s is =
           ap (node_in new) is ∙ ap node_found (moved_place s) ∙ stands.found (from ++ s)
           ∙ sym (moved_at from to (from ++ s) names none (below_from_off (from ++ s) (is_below-append from s)))
-          ∙ ap (node_at (with_moved names from to)) (moved_below from to s ∙ sym is)
+          ∙ ap (node_at (moved_all from to names)) (moved_below from to s ∙ sym is)
 
-      gone_from : (q s : PathOf) → q ≡ from ++ s → is_below q from ≡ true → is_below q to ≡ false → node_in new q ≡ node_at (with_moved names from to) q
+      gone_from : (q s : PathOf) → q ≡ from ++ s → is_below q from ≡ true → is_below q to ≡ false → node_in new q ≡ node_at (moved_all from to names) q
       gone_from q s is q_in q_off = ap (node_in new) is ∙ ap node_found (left_place s) ∙ sym (moved_left from to q names q_in q_off)
 
-      away : (q : PathOf) → is_below q to ≡ false → (b : Bool) → is_below q from ≡ b → node_in new q ≡ node_at (with_moved names from to) q
+      away : (q : PathOf) → is_below q to ≡ false → (b : Bool) → is_below q from ≡ b → node_in new q ≡ node_at (moved_all from to names) q
       away q q_off true q_in = gone_from q (drop (length from) q) (below_rest q from q_in) q_in q_off
       away q q_off false q_out =
           ap node_found (same_place q q_out q_off) ∙ stands.found q ∙ sym (moved_at from to q names none q_off)
-          ∙ ap (node_at (with_moved names from to)) (cond-false (is_below q from) (to ++ drop (length from) q) q q_out)
+          ∙ ap (node_at (moved_all from to names)) (cond-false (is_below q from) (to ++ drop (length from) q) q q_out)
 
-      by : (q : PathOf) (b : Bool) → is_below q to ≡ b → node_in new q ≡ node_at (with_moved names from to) q
+      by : (q : PathOf) (b : Bool) → is_below q to ≡ b → node_in new q ≡ node_at (moved_all from to names) q
       by q true q_in = there q (drop (length to) q) (below_rest q to q_in)
       by q false q_off = away q q_off (is_below q from) refl
 
@@ -385,14 +385,14 @@ rename_too_deep dirs tree from to x d b at apart room short is low fails pins co
     ∙ ap (λ w. or_else (refusal_of w) (refuse_where (is_too_deep names from to) TooDeep)) room
     ∙ ap (λ t. refuse_where t TooDeep) (is_deep dirs names tree stands from to x b at (room_some dirs to d room) short is low fails))))
 
-moved_pins : (pins : PinList) (names : Names) (from to : PathOf) (count : ℕ) → PinsStandFor pins names count → PinsStandFor pins (with_moved names from to) count
-moved_pins pins names from to count stand = record {
+moved_pins : (pins : PinList) (names : Names) (from to : PathOf) (count : ℕ) → NoneBelow to names → PinsStandFor pins names count → PinsStandFor pins (with_moved names from to) count
+moved_pins pins names from to count none stand = subst (λ after. PinsStandFor pins after count) (sym (none_replaced from to names none)) (record {
   found = λ f. stand.found f
       ∙ ap (λ t. cond t (Some (list_any (pins_file f) names)) None) (sym (moved_any (is_file_node f) from to names))
-      ∙ ap (λ t. cond (list_any (names_file f) (with_moved names from to)) (Some t) None) (sym (moved_any (is_pinned_node f) from to names));
+      ∙ ap (λ t. cond (list_any (names_file f) (moved_all from to names)) (Some t) None) (sym (moved_any (is_pinned_node f) from to names));
   once = moved_files_once from to names stand.once;
   made = λ f named. stand.made f (sym (moved_any (is_file_node f) from to names) ∙ named);
-}
+})
 
 pub rename_done : (old new : Dirs) (from to : PathOf) (x : Child) (d e b : ℕ) → Move old new from to x d e → room_for old to ≡ Ok d → length to ≤ 16 → b ≡ bytes_of (parent to) → b ≤ 1024 →
     child_fits old (17 - length to) (1024 - b) (last_part to, x) ≡ true → (pins : PinList) (count : ℕ) → Answers (tables old pins) (tables new pins) count (Rename from to) Fine
@@ -402,7 +402,7 @@ rename_done old new from to x d e b move room short is low fits pins count = rec
       ∙ ap (λ w. or_else (refusal_of w) (refuse_where (is_too_deep names from to) TooDeep)) room
       ∙ ap (λ t. refuse_where t TooDeep) (not_deep old names stands from to x b move.at (room_some old to d room) short is low fits)));
   names = λ names stands. moved_stands old new from to x d e move names stands;
-  pins = λ names stands stand. same_count pins (with_moved names from to) count [] refl (moved_pins pins names from to count stand);
+  pins = λ names stands stand. same_count pins (with_moved names from to) count [] refl (moved_pins pins names from to count (none_there old new from to x d e move names stands) stand);
   unchanged = λ no. absurd (true≢false no);
   tree = moved_tree old new from to x d e move;
 }

@@ -11,7 +11,7 @@ use Rattle.tl_types.specs.Same.{file_cmp, file_same, file_same-Decides}
 use Rattle.tl_types.specs.declared.file_id.FileId.{FileId}
 use Rattle.tl_types.specs.declared.record_id.RecordId.{RecordId}
 use Rattle.tl_model.specs.declared.reply.Reply.{Reply}
-use Rattle.tl_model.specs.Namespace.{PathOf, Node, file, Names, last_part, with_name, with_outputs}
+use Rattle.tl_model.specs.Namespace.{PathOf, Node, file, Names, last_part, node_at, with_name, with_outputs}
 use Rattle.tl_model.specs.Replies.{count_refusal, or_else, outputs_refusal, refusal_of}
 use Rattle.tl_names.specs.declared.child.Child.TheVariants.{File}
 use Rattle.tl_names.specs.Pins.{PinList, MakesFiles, PinsUpTo, PinsStandFor, names_file, pins_file, pin_in, pin_of}
@@ -19,6 +19,7 @@ use Rattle.tl_names.specs.Standing.{StandsFor}
 use Rattle.tl_names.specs.Tables.{Children, Dirs, children_at, room_for, IsTree}
 use Rattle.tl_names.proofs.Entries.{inserted_here, inserted_apart}
 use Rattle.tl_names.proofs.Files.{by_file}
+use Rattle.tl_names.proofs.Lookups.{without_none}
 use Rattle.tl_names.proofs.Made.{Makes, file_makes}
 use Rattle.tl_names.proofs.Pinned.{none_pinned, same_file}
 use Rattle.tl_names.proofs.Replied.{room_same}
@@ -69,11 +70,13 @@ fresh pins names made k upto = by (cases_Bool (list_any (names_file (output made
     by (inl named) = absurd (late (upto.before (output made k) named))
     by (inr none) = none
 
-pub file_added : (pins : PinList) (names : Names) (path : PathOf) (made k : ℕ) (added : Bool) → PinsUpTo pins names made k → added ≡ not (is_some (pin_in pins (output made k))) →
+pub file_added : (pins : PinList) (names : Names) (path : PathOf) (made k : ℕ) (added : Bool) → node_at names path ≡ None → PinsUpTo pins names made k →
+    added ≡ not (is_some (pin_in pins (output made k))) →
     PinsUpTo (cond added (insert_entry file_cmp pins (output made k) false) pins) (with_name names path (output_node made k)) made (k + 1)
-file_added pins names path made k added upto is =
+file_added pins names path made k added free upto is =
     subst (λ b. PinsUpTo (cond b (insert_entry file_cmp pins f false) pins) (with_name names path (file f false)) made (k + 1)) (sym new)
-    (record { found = λ g. by g (file_same g f) refl; once = (none, upto.once); before = λ g named. earlier g (or_cases (file_same g f) (list_any (names_file g) names) named) })
+    (subst (λ rest. PinsUpTo (insert_entry file_cmp pins f false) ((path, file f false) ∷ rest) made (k + 1)) (sym (without_none path names free))
+    (record { found = λ g. by g (file_same g f) refl; once = (none, upto.once); before = λ g named. earlier g (or_cases (file_same g f) (list_any (names_file g) names) named) }))
   where
     f : FileId
     f = output made k
@@ -84,11 +87,11 @@ file_added pins names path made k added upto is =
     new : added ≡ true
     new = is ∙ ap (λ o. not (is_some o)) (upto.found f ∙ pin_absent names f none)
 
-    by : (g : FileId) (b : Bool) → file_same g f ≡ b → pin_in (insert_entry file_cmp pins f false) g ≡ pin_of (with_name names path (file f false)) g
+    by : (g : FileId) (b : Bool) → file_same g f ≡ b → pin_in (insert_entry file_cmp pins f false) g ≡ pin_of ((path, file f false) ∷ names) g
     by g true same =
         let g_is : g ≡ f = (file_same-Decides g f).0 same in
         ap (pin_in (insert_entry file_cmp pins f false)) g_is ∙ inserted_here file_cmp file_same by_file f false pins
-        ∙ sym (ap (pin_of (with_name names path (file f false))) g_is
+        ∙ sym (ap (pin_of ((path, file f false) ∷ names)) g_is
         ∙ ap (λ b. cond (b || list_any (names_file f) names) (Some ((b && false) || list_any (pins_file f) names)) None) (same_file f)
         ∙ ap Some (none_pinned f names none))
     by g false apart =
@@ -114,11 +117,11 @@ pub makes_more : (old mid new : Dirs) (pins pins_mid after : PinList) (paths res
 makes_more old mid new pins pins_mid after paths rest path made k added is first adds pins_is more = record {
   tree = more.tree;
   stands = λ names stands. subst (λ ps. StandsFor new (with_outputs names made k ps)) (sym is) (more.stands (with_name names path (output_node made.0 k)) (first.stands names stands));
-  files = λ names upto.
+  files = λ names stands upto.
       subst (λ ps. PinsUpTo after (with_outputs names made k ps) made.0 (k + length ps)) (sym is)
       (subst (PinsUpTo after (with_outputs names made k (path ∷ rest)) made.0) counted
-      (more.files (with_name names path (output_node made.0 k))
-      (subst (λ p. PinsUpTo p (with_name names path (output_node made.0 k)) made.0 (k + 1)) (sym pins_is) (file_added pins names path made.0 k added upto adds))));
+      (more.files (with_name names path (output_node made.0 k)) (first.stands names stands)
+      (subst (λ p. PinsUpTo p (with_name names path (output_node made.0 k)) made.0 (k + 1)) (sym pins_is) (file_added pins names path made.0 k added (first.free names stands) upto adds))));
 }
   where
     counted : k + 1 + length rest ≡ k + length (path ∷ rest)

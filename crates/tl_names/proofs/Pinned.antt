@@ -6,19 +6,13 @@ use Rattle.std.proofs.lemmas.Bool.{true≢false, or_parts, or_left, or_from}
 use Rattle.std.proofs.lemmas.Option.{none-some}
 use Rattle.tl_types.specs.Same.{path_same, path_same-Decides, file_same, file_same-Decides}
 use Rattle.tl_types.specs.declared.file_id.FileId.{FileId}
-use Rattle.tl_model.specs.Namespace.{PathOf, Node, dir, file, Names, node_at, with_moved, with_pin, with_pinned, without_name}
+use Rattle.tl_model.specs.Namespace.{PathOf, Node, dir, file, Names, node_at, with_pin, with_pinned, without_name}
 use Rattle.tl_model.specs.History.{is_file_node, is_pinned_node}
 use Rattle.tl_names.specs.Standing.{HasEachOnce}
 use Rattle.tl_names.specs.Pins.{IsAlone, HasFilesOnce, names_file, pins_file}
-use Rattle.tl_names.proofs.Lookups.{absent_head}
+use Rattle.tl_names.proofs.Lookups.{absent_head, without_none, moved_all}
 
 -- a list in which nothing has the path
-without_none : (p : PathOf) (names : Names) → node_at names p ≡ None → without_name names p ≡ names
-without_none p [] absent = refl
-without_none p (e ∷ es) absent =
-    let parts : (path_same p e.0 ≡ false) × (node_at es p ≡ None) = absent_head p e es absent in
-    ap (λ b. cond (not b) (e ∷ without_name es p) (without_name es p)) parts.0 ∙ ap (λ rest. e ∷ rest) (without_none p es parts.1)
-
 pinned_none : (p : PathOf) (pinned : Bool) (names : Names) → node_at names p ≡ None → with_pinned names p pinned ≡ names
 pinned_none p pinned [] absent = refl
 pinned_none p pinned (e ∷ es) absent =
@@ -186,14 +180,14 @@ pin_here f b p pinned (e ∷ es) once files found = by (path_same p e.0) refl fo
 
 -- ---- names moved
 
-pub moved_any : (test : Node → Bool) (from to : PathOf) (names : Names) → list_any (λ e. test e.1) (with_moved names from to) ≡ list_any (λ e. test e.1) names
+pub moved_any : (test : Node → Bool) (from to : PathOf) (names : Names) → list_any (λ e. test e.1) (moved_all from to names) ≡ list_any (λ e. test e.1) names
 moved_any test from to [] = refl
 moved_any test from to (e ∷ es) = ap (λ b. test e.1 || b) (moved_any test from to es)
 
-alone_moved : (from to : PathOf) (m : Node) (es : Names) → IsAlone m es → IsAlone m (with_moved es from to)
+alone_moved : (from to : PathOf) (m : Node) (es : Names) → IsAlone m es → IsAlone m (moved_all from to es)
 alone_moved from to dir es alone = tt
 alone_moved from to (file f b) es alone = moved_any (is_file_node f) from to es ∙ alone
 
-pub moved_files_once : (from to : PathOf) (names : Names) → HasFilesOnce names → HasFilesOnce (with_moved names from to)
+pub moved_files_once : (from to : PathOf) (names : Names) → HasFilesOnce names → HasFilesOnce (moved_all from to names)
 moved_files_once from to [] files = tt
 moved_files_once from to (e ∷ es) files = (alone_moved from to e.1 es files.0, moved_files_once from to es files.1)

@@ -53,4 +53,5 @@ pub record PinsUpTo (pins : PinList) (names : Names) (count out : ℕ) : Type 0 
 pub record MakesFiles (old : Dirs) (pins : PinList) (new : Dirs) (after : PinList) (paths : List PathOf) (made : RecordId) (out : ℕ) : Type 0 where
   pub tree : IsTree new
   pub stands : (names : Names) → StandsFor old names → StandsFor new (with_outputs names made out paths)
-  pub files : (names : Names) → PinsUpTo pins names made.0 out → PinsUpTo after (with_outputs names made out paths) made.0 (out + length paths)
+  pub files : (names : Names) → StandsFor old names → PinsUpTo pins names made.0 out →
+      PinsUpTo after (with_outputs names made out paths) made.0 (out + length paths)

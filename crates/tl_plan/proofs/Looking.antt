@@ -12,9 +12,9 @@ use Rattle.tl_model.specs.History.{files_from, has_input, has_output, id_of, inp
 use Rattle.tl_model.specs.Actors.{is_read, is_running}
 use Rattle.tl_model.specs.Residency.{is_available, is_resident, is_saved, place}
 use Rattle.tl_model.specs.Plan.{can_run, has_id, is_awaited, is_ready, is_task, is_wanted, task_among, tasks}
-use Rattle.tl_laws.specs.Numbers.{below_or_not}
+use Rattle.tl_laws.proofs.Numbering.{below_or_not}
 use Rattle.tl_laws.specs.Made.{HasMadeInputs, IsOutputOf}
-use Rattle.tl_laws.specs.Order.{among-holds}
+use Rattle.tl_laws.proofs.Order.{among-holds}
 use Rattle.tl_steps.specs.Steps.{is_read_at, is_running_at}
 use Rattle.tl_steps.specs.Within.{IsWithin}
 use Rattle.tl_steps.proofs.Lists.{get_map, get_map_none}

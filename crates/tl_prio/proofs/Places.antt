@@ -7,7 +7,7 @@ use Rattle.tl_model.specs.declared.record.Record.{Record}
 use Rattle.tl_model.specs.History.{id_of}
 use Rattle.tl_model.specs.Plan.{has_id}
 use Rattle.tl_laws.specs.Numbers.{Numbered}
-use Rattle.tl_laws.specs.Ready.{after}
+use Rattle.tl_laws.proofs.Ready.{after}
 use Rattle.tl_steps.proofs.Files.{not-true}
 
 -- the records are numbered from n on

@@ -4,14 +4,16 @@ use Rattle.std.specs.List.{list_any}
 use Rattle.tl_types.specs.Same.{file_same, record_same}
 use Rattle.tl_types.specs.declared.actor.Actor.{Actor}
 use Rattle.tl_types.specs.declared.record_id.RecordId.{RecordId}
+use Rattle.tl_model.specs.declared.header.OrderRule.{OrderRule}
 use Rattle.tl_model.specs.declared.record.Record.{Record}
 use Rattle.tl_model.specs.Past.{Past}
 use Rattle.tl_model.specs.Tables.{Table, answer_at, better, downward, first_by}
 use Rattle.tl_model.specs.History.{id_of, inputs_of, outputs_of, records}
 use Rattle.tl_model.specs.Actors.{OpenRead, actors, is_running, open_read}
-use Rattle.tl_model.specs.Plan.{can_run, goes_before, greatest, has_id, is_ready, is_task, next, prio, prio_among, prio_of_own, prio_of_read, prio_of_reads, prio_of_waiting, ready}
+use Rattle.tl_model.specs.Plan.{can_run, greatest, has_turn_before, has_id, is_ready, is_task, next, prio, prio_among, prio_of_own, prio_of_read, prio_of_reads, prio_of_waiting, ready}
 use Rattle.tl_laws.specs.Numbers.{Numbered}
-use Rattle.tl_laws.specs.Ready.{answer-at-place}
+use Rattle.tl_laws.proofs.Next.{goes_before, next-first}
+use Rattle.tl_laws.proofs.Ready.{answer-at-place}
 use Rattle.tl_steps.specs.declared.seat.Seat.{Seat}
 use Rattle.tl_steps.specs.Steps.{seat_of}
 use Rattle.tl_steps.proofs.Lists.{any_map, get_map, map_after}
@@ -19,7 +21,7 @@ use Rattle.tl_steps.proofs.Seats.{running-same, seats_of}
 use Rattle.tl_prio.specs.declared.choice.Choice.{Choice}
 use Rattle.tl_prio.specs.declared.kept.Kept.{Kept}
 use Rattle.tl_prio.specs.declared.output.Output.{Output}
-use Rattle.tl_prio.specs.Data.{OrderData, all_raised, better_choice, choice_from, greatest_read, none_waiting, number_or_none, prio_before, prio_from, prio_with, read_prio, waiting_after, waiting_at, waiting_from}
+use Rattle.tl_prio.specs.Data.{OrderData, all_raised, better_choice, choice_from, choice_in, greatest_read, none_waiting, number_or_none, prio_before, prio_from, prio_with, read_prio, waiting_after, waiting_at, waiting_from}
 use Rattle.tl_prio.specs.Standing.{StandsFor, kept_in, output_in}
 use Rattle.tl_prio.proofs.Places.{StartsAt, any-at, from_place, place-of, starts}
 use Rattle.tl_prio.proofs.Raising.{all-raised, hits, missing-same, none-raised}
@@ -124,16 +126,17 @@ choice-if : (past : Past) (r s : Record) (b : Bool) →
 choice-if past r s true = refl
 choice-if past r s false = refl
 
-better-same : (past : Past) (r : Record) (o : Option Record) →
-    better_choice (id_of r) (prio past (id_of r)) (option_map (choice_of past) o) ≡ choice_of past (better (goes_before past) r o)
-better-same past r None = refl
-better-same past r (Some s) = choice-if past r s (goes_before past s r)
+better-same : (rule : OrderRule) (past : Past) (r : Record) (o : Option Record) →
+    better_choice (has_turn_before rule past) (id_of r) (prio past (id_of r)) (option_map (choice_of past) o) ≡ choice_of past (better (goes_before rule past) r o)
+better-same rule past r None = refl
+better-same rule past r (Some s) = choice-if past r s (goes_before rule past s r)
 
-first-if : (past : Past) (r : Record) (rs : List Record) (b : Bool) →
-    (if b then Some (better_choice (id_of r) (prio past (id_of r)) (option_map (choice_of past) (first_by (goes_before past) rs))) else option_map (choice_of past) (first_by (goes_before past) rs))
-    ≡ option_map (choice_of past) (first_by (goes_before past) (if b then r ∷ rs else rs))
-first-if past r rs true = ap Some (better-same past r (first_by (goes_before past) rs))
-first-if past r rs false = refl
+first-if : (rule : OrderRule) (past : Past) (r : Record) (rs : List Record) (b : Bool) →
+    (if b then Some (better_choice (has_turn_before rule past) (id_of r) (prio past (id_of r)) (option_map (choice_of past) (first_by (goes_before rule past) rs)))
+    else option_map (choice_of past) (first_by (goes_before rule past) rs))
+    ≡ option_map (choice_of past) (first_by (goes_before rule past) (if b then r ∷ rs else rs))
+first-if rule past r rs true = ap Some (better-same rule past r (first_by (goes_before rule past) rs))
+first-if rule past r rs false = refl
 
 prio-at : (past : Past) (k : ℕ) (r : Record) (later : List Record) → Numbered (records past) → from_place (records past) k ≡ r ∷ later → prio_in past r later ≡ prio past (id_of r)
 prio-at past k r later numbered at =
@@ -147,15 +150,15 @@ ready-at past k r numbered at =
     let number : (id_of r).0 ≡ k = ap (λ (id : RecordId). id.0) (numbered k r at) in
     any-at (can_run past) (id_of r) 0 (records past) k r (starts (records past) numbered) (omega arith) at
 
-choice-same : (past : Past) (k : ℕ) (rs : List Record) → Numbered (records past) → from_place (records past) k ≡ rs →
-    choice_from (is_task past) (is_ready past) (seats_of past) (kept_all past) (none_waiting (records past)) (map (kept_in past) rs)
-    ≡ option_map (choice_of past) (first_by (goes_before past) (filter (can_run past) rs))
-choice-same past k [] numbered at = refl
-choice-same past k (r ∷ later) numbered at =
+choice-same : (rule : OrderRule) (past : Past) (k : ℕ) (rs : List Record) → Numbered (records past) → from_place (records past) k ≡ rs →
+    choice_from (has_turn_before rule past) (is_task past) (is_ready past) (seats_of past) (kept_all past) (none_waiting (records past)) (map (kept_in past) rs)
+    ≡ option_map (choice_of past) (first_by (goes_before rule past) (filter (can_run past) rs))
+choice-same rule past k [] numbered at = refl
+choice-same rule past k (r ∷ later) numbered at =
     let place = place-of k (records past) r later at in
-    let rest = choice-same past (suc k) later numbered place.1 in
-    (λ i. if ready-at past k r numbered place.0 i then Some (better_choice (id_of r) (prio-at past k r later numbered at i) (rest i)) else rest i)
-    ∙ first-if past r (filter (can_run past) later) (can_run past r)
+    let rest = choice-same rule past (suc k) later numbered place.1 in
+    (λ i. if ready-at past k r numbered place.0 i then Some (better_choice (has_turn_before rule past) (id_of r) (prio-at past k r later numbered at i) (rest i)) else rest i)
+    ∙ first-if rule past r (filter (can_run past) later) (can_run past r)
 
 -- ---- of what is kept
 
@@ -168,12 +171,16 @@ made-of past None = refl
 made-of past (Some r) = refl
 
 pub next-found : (order : OrderData) (past : Past) → StandsFor order past →
-    option_map (λ (choice : Choice). choice.made) (choice_from (is_task past) (is_ready past) order.seats order.records (none_waiting order.records) order.records) ≡ next past
+    option_map (λ (choice : Choice). choice.made)
+    (choice_in order.turns.rule past order.seats order.records (none_waiting order.records))
+    ≡ next order.turns.rule past
 next-found order past stands =
+    let rule = order.turns.rule in
     ap (option_map (λ (choice : Choice). choice.made))
-    ((λ i. choice_from (is_task past) (is_ready past) (stands.seats i) (stands.records i) (none-same order.records (kept_in past) (records past) stands.records i) (stands.records i))
-    ∙ choice-same past 0 (records past) stands.within.numbered refl)
-    ∙ made-of past (first_by (goes_before past) (filter (can_run past) (records past)))
+    ((λ i. choice_in rule past (stands.seats i) (stands.records i) (none-same order.records (kept_in past) (records past) stands.records i))
+    ∙ choice-same rule past 0 (records past) stands.within.numbered refl)
+    ∙ made-of past (first_by (goes_before rule past) (ready past))
+    ∙ sym (next-first rule past)
 
 pub prio-found : (order : OrderData) (past : Past) (made : RecordId) → StandsFor order past →
     prio_from (is_task past) order.seats order.records (none_waiting order.records) made order.records ≡ prio past made
@@ -193,7 +200,9 @@ none-first : (before : Record → Record → Bool) (rs : List Record) →
 none-first before [] = (λ h. refl, λ e. refl)
 none-first before (r ∷ rs) = (λ h. absurd (cc), λ e. absurd (cc))
 
-pub none-ready : (past : Past) (found : Option RecordId) → found ≡ next past → (is_some found ≡ false → ready past ≡ []) × (ready past ≡ [] → is_some found ≡ false)
-none-ready past found is =
-    let both = none-first (goes_before past) (ready past) in
-    (λ h. both.0 (ap is_some (sym is) ∙ h), λ e. ap is_some is ∙ both.1 e)
+pub none-ready : (rule : OrderRule) (past : Past) (found : Option RecordId) → found ≡ next rule past →
+    (is_some found ≡ false → ready past ≡ []) × (ready past ≡ [] → is_some found ≡ false)
+none-ready rule past found is =
+    let both = none-first (goes_before rule past) (ready past) in
+    let first = is ∙ next-first rule past in
+    (λ h. both.0 (ap is_some (sym first) ∙ h), λ e. ap is_some first ∙ both.1 e)

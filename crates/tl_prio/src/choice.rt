@@ -3,11 +3,12 @@
 ghost use Rattle.std.specs.Prelude.{◌≡◌, Some, option_map, if◌then◌else◌};
 ghost use Rattle.tl_prio.specs.declared.choice.Choice.{Choice as ChoiceOf};
 ghost use Rattle.tl_model.specs.Past.{Past};
-ghost use Rattle.tl_model.specs.Plan.{is_ready, is_task};
-ghost use Rattle.tl_prio.specs.Data.{better_choice, choice_from, none_waiting, prio_from};
+ghost use Rattle.tl_model.specs.Plan.{claims, has_turn_before, is_ready, is_task};
+ghost use Rattle.tl_prio.specs.Data.{HasClaims, better_choice, choice_in, none_waiting, prio_from};
 
 use crate::kept::Kept;
 use crate::number::least;
+use crate::turns::Turns;
 use crate::waiting::{clear, settle};
 use tl_model::Facts;
 use tl_steps::{Seat, same_record};
@@ -20,35 +21,37 @@ pub struct Choice {
     pub prio: Prio,
 }
 
-/// The ready record of greatest priority, and among these of the least number.
+/// The ready record of least number among those whose priority has its turn.
 pub(crate) fn choose<F: Facts>(
     facts: &F,
+    turns: &Turns,
     seats: &[Seat],
     records: &[Kept],
     waiting: &mut [Prio],
 ) -> Option<Choice>
-    ensures { (past : Past) → F.speaks_of facts.now past →
-        result ≡ choice_from (is_task past) (is_ready past) seats.now records.now (none_waiting waiting.old) records.now }
+    ensures { (past : Past) → F.speaks_of facts.now past → HasClaims turns.now (claims past) →
+        result ≡ choice_in turns.now.rule past seats.now records.now (none_waiting waiting.old) }
 {
     clear(waiting);
-    choose_from(facts, seats, records, waiting)
+    choose_from(facts, turns, seats, records, waiting)
 }
 
 // The choice, where nothing waits yet.
 fn choose_from<F: Facts>(
     facts: &F,
+    turns: &Turns,
     seats: &[Seat],
     records: &[Kept],
     waiting: &mut [Prio],
 ) -> Option<Choice>
-    ensures { (past : Past) → F.speaks_of facts.now past →
-        result ≡ choice_from (is_task past) (is_ready past) seats.now records.now waiting.old records.now }
+    ensures { (past : Past) → F.speaks_of facts.now past → HasClaims turns.now (claims past) →
+        result ≡ choice_in turns.now.rule past seats.now records.now waiting.old }
 {
     let mut best = None;
     for i in (0..records.len()).rev() {
         let kept = &records[i];
         let prio = settle(facts, seats, records, kept, waiting);
-        best = choice_with(facts, kept.made, prio, best);
+        best = choice_with(facts, turns, kept.made, prio, best);
     }
     best
 }
@@ -56,25 +59,29 @@ fn choose_from<F: Facts>(
 // The better of the record, if it is ready, and the later one.
 fn choice_with<F: Facts>(
     facts: &F,
+    turns: &Turns,
     made: RecordId,
     prio: Prio,
     later: Option<Choice>,
 ) -> Option<Choice>
-    ensures { (past : Past) → F.speaks_of facts.now past → result ≡ (if is_ready past made then Some (better_choice made prio later) else later) }
+    ensures { (past : Past) → F.speaks_of facts.now past → HasClaims turns.now (claims past) →
+        let best = better_choice (has_turn_before turns.now.rule past) made prio later in
+        result ≡ (if is_ready past made then Some best else later) }
 {
     if facts.is_ready(made) {
-        Some(better_choice(made, prio, later))
+        Some(better_choice(turns, made, prio, later))
     } else {
         later
     }
 }
 
-// The later record, where it is of greater priority, else the earlier one.
-fn better_choice(made: RecordId, prio: Prio, later: Option<Choice>) -> Choice
-    ensures { result ≡ better_choice made prio later }
+// The later record, where its priority has its turn before the earlier one's, else the earlier one.
+fn better_choice(turns: &Turns, made: RecordId, prio: Prio, later: Option<Choice>) -> Choice
+    ensures { (past : Past) → HasClaims turns.now (claims past) →
+        result ≡ better_choice (has_turn_before turns.now.rule past) made prio later }
 {
     match later {
-        Some(later) if prio.get() < later.prio.get() => later,
+        Some(later) if turns.has_turn_before(later.prio, prio) => later,
         _ => Choice { made, prio },
     }
 }
@@ -98,7 +105,8 @@ pub(crate) fn prio_of<F: Facts>(
     made: RecordId,
 ) -> Prio
     ensures { (past : Past) → F.speaks_of facts.now past →
-        result ≡ prio_from (is_task past) seats.now records.now (none_waiting waiting.old) made records.now }
+        let start = none_waiting waiting.old in
+        result ≡ prio_from (is_task past) seats.now records.now start made records.now }
 {
     clear(waiting);
     find_prio(facts, seats, records, waiting, made)

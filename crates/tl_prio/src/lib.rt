@@ -7,6 +7,7 @@ mod number;
 mod order;
 mod output;
 mod outputs;
+mod turns;
 mod waiting;
 
 pub use order::Order;

@@ -34,7 +34,9 @@ pub(crate) fn settle<F: Facts>(
     waiting: &mut [Prio],
 ) -> Prio
     ensures prio { result ≡ prio_with seats.now kept.now (waiting_at kept.now.made waiting.old) }
-    ensures waiting { (past : Past) → F.speaks_of facts.now past → waiting.new ≡ waiting_after (is_task past) seats.now records.now kept.now result waiting.old }
+    ensures waiting { (past : Past) → F.speaks_of facts.now past →
+        waiting.new
+        ≡ waiting_after (is_task past) seats.now records.now kept.now result waiting.old }
 {
     let prio = prio_with(seats, kept, waiting_at(waiting, kept.made));
     if facts.is_task(kept.made) && !is_running(seats, kept.made) {

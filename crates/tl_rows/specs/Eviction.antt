@@ -1,11 +1,7 @@
 -- Two files of four bytes and one of eight, on a worker of four.
-use Rattle.std.specs.Prelude.{List, [], ◌∷◌, codes}
-use Rattle.tl_lang.specs.declared.expr.Expr.{Expr, Input, Cat}
+use Rattle.std.specs.Prelude.{[], ◌∷◌, codes}
 use Rattle.tl_model.specs.Past.{Past, Told, without_tickets}
-use Rattle.tl_rows.specs.Words.{DigestOf, at, call, cat, claim, done, evict, file_of, itself, job, made, only_text, opened, served}
-
-abbrev pub both_inputs : List Expr
-both_inputs = Cat (Input 0) (Input 1) ∷ []
+use Rattle.tl_rows.specs.Words.{DigestOf, at, both_inputs, call, cat, claim, done, evict, file_of, itself, job, made, only_text, opened, served}
 
 abbrev pub eviction : DigestOf → Told
 eviction digest =

@@ -11,3 +11,5 @@ pub mod TwoOutputs
 pub mod InheritedPriority
 pub mod Refused
 pub mod LogCount
+pub mod SharedClaims
+pub mod InputTwice

@@ -11,6 +11,8 @@ use Rattle.tl_model.specs.declared.command.Command.{Command}
 use Rattle.tl_model.specs.declared.command.Command.TheVariants as command
 use Rattle.tl_model.specs.declared.command.Form.TheVariants as form
 use Rattle.tl_model.specs.declared.header.Header.{Header}
+use Rattle.tl_model.specs.declared.header.OrderRule.TheVariants.{Strict, Shares}
+use Rattle.tl_model.specs.declared.header.Version.TheVariants.{One}
 use Rattle.tl_model.specs.declared.reply.Reply.{Reply}
 use Rattle.tl_model.specs.declared.reply.Reply.TheVariants as reply
 use Rattle.tl_model.specs.declared.event.Act.{Act}
@@ -28,7 +30,13 @@ abbrev pub worker : ℕ → WorkerId
 worker n = record { 0 = n }
 
 abbrev pub header : ℕ → ℕ → ℕ → Header
-header workers capacity hot = record { workers = workers; capacity = capacity; hot = hot }
+header workers capacity hot =
+    record { workers = workers; capacity = capacity; hot = hot; order = Strict; version = One }
+
+-- the same where each priority gets its share of the claims
+abbrev pub sharing : ℕ → ℕ → ℕ → Header
+sharing workers capacity hot =
+    record { workers = workers; capacity = capacity; hot = hot; order = Shares; version = One }
 
 -- Journals are written over a digest, so that they can be judged by SHA-256 or by a digest that is quickly found.
 abbrev pub DigestOf : Type 0
@@ -80,6 +88,10 @@ then_text text = Cat (Input 0) (Text text) ∷ []
 -- a program with one output, the text
 abbrev pub only_text : List ℕ → List Expr
 only_text text = Text text ∷ []
+
+-- a program with one output, the first of two inputs and then the second
+abbrev pub both_inputs : List Expr
+both_inputs = Cat (Input 0) (Input 1) ∷ []
 
 abbrev pub cat : ℕ → List ℕ → Command (List ℕ)
 cat prio name = command.Read (at name) prio form.Cat

@@ -6,6 +6,7 @@ ghost use Rattle.tl_model.specs.Actors.{is_running};
 ghost use Rattle.tl_model.specs.Plan.{is_ready, is_task, is_wanted, next};
 ghost use Rattle.tl_model.specs.Rules.{is_lawful, is_legal};
 ghost use Rattle.tl_model.specs.Values.{value};
+ghost use Rattle.tl_model.specs.declared.header.OrderRule.TheVariants.{Strict};
 ghost use Rattle.tl_rows.specs.ChainLost.{chain_lost, chain_lost_past};
 ghost use Rattle.tl_rows.specs.Words.{file_of, hashed, header, id, itself};
 
@@ -20,15 +21,15 @@ pub fn chain_lost()
 /// What is next, wanted and ready around the losses.
 #[tactic(auto, unfolding(crate::specs::Computing::computing))]
 pub fn chain_lost_plan()
-    ensures next_at_first { next (drop 18 chain_lost_past) ≡ Some (id 1) }
-    ensures next_when_done { next (drop 12 chain_lost_past) ≡ None }
-    ensures next_when_lost { next (drop 10 chain_lost_past) ≡ None }
-    ensures first { next (drop 9 chain_lost_past) ≡ Some (id 1) }
-    ensures first_running { next (drop 8 chain_lost_past) ≡ None }
-    ensures second { next (drop 7 chain_lost_past) ≡ Some (id 2) }
-    ensures third { next (drop 5 chain_lost_past) ≡ Some (id 3) }
-    ensures no_other { next (drop 3 chain_lost_past) ≡ None }
-    ensures none_for_second_read { next (drop 1 chain_lost_past) ≡ None }
+    ensures next_at_first { next Strict (drop 18 chain_lost_past) ≡ Some (id 1) }
+    ensures next_when_done { next Strict (drop 12 chain_lost_past) ≡ None }
+    ensures next_when_lost { next Strict (drop 10 chain_lost_past) ≡ None }
+    ensures first { next Strict (drop 9 chain_lost_past) ≡ Some (id 1) }
+    ensures first_running { next Strict (drop 8 chain_lost_past) ≡ None }
+    ensures second { next Strict (drop 7 chain_lost_past) ≡ Some (id 2) }
+    ensures third { next Strict (drop 5 chain_lost_past) ≡ Some (id 3) }
+    ensures no_other { next Strict (drop 3 chain_lost_past) ≡ None }
+    ensures none_for_second_read { next Strict (drop 1 chain_lost_past) ≡ None }
     ensures task { is_task (drop 9 chain_lost_past) (id 2) ≡ true }
     ensures not_ready { is_ready (drop 9 chain_lost_past) (id 2) ≡ false }
     ensures ready { is_ready (drop 9 chain_lost_past) (id 1) ≡ true }

@@ -8,6 +8,7 @@ ghost use Rattle.tl_model.specs.Plan.{next};
 ghost use Rattle.tl_model.specs.Residency.{reads};
 ghost use Rattle.tl_model.specs.Rules.{is_lawful};
 ghost use Rattle.tl_model.specs.Values.{value};
+ghost use Rattle.tl_model.specs.declared.header.OrderRule.TheVariants.{Strict};
 ghost use Rattle.tl_rows.specs.LogCount.{log_count, log_count_past, log_report_past, report};
 ghost use Rattle.tl_rows.specs.Words.{file_of, header, id, itself};
 
@@ -42,6 +43,6 @@ pub fn log_garbage()
     ensures last { garbage (drop 30 log_count_past) ≡ Some (id 15) }
     ensures none { garbage (drop 29 log_count_past) ≡ None }
     ensures needed { is_needed (drop 29 log_count_past) (id 4) ≡ true }
-    ensures next_for_report { next (drop 26 log_count_past) ≡ None }
-    ensures next_for_total { next (drop 23 log_count_past) ≡ Some (id 4) }
+    ensures next_for_report { next Strict (drop 26 log_count_past) ≡ None }
+    ensures next_for_total { next Strict (drop 23 log_count_past) ≡ Some (id 4) }
 {}

@@ -6,6 +6,7 @@ ghost use Rattle.tl_model.specs.Plan.{is_task, next};
 ghost use Rattle.tl_model.specs.Residency.{is_available, is_saved};
 ghost use Rattle.tl_model.specs.Rules.{ToSave, is_lawful, is_legal, lawful_judge, owed};
 ghost use Rattle.tl_model.specs.Values.{value};
+ghost use Rattle.tl_model.specs.declared.header.OrderRule.TheVariants.{Strict};
 ghost use Rattle.tl_rows.specs.Rerun.{rerun, rerun_past};
 ghost use Rattle.tl_rows.specs.Words.{file_of, hashed, header, id, itself};
 
@@ -15,11 +16,11 @@ pub fn rerun()
     ensures lawful { is_lawful (header 1 100 3) (rerun itself) ≡ true }
     ensures legal { is_legal (header 1 100 3) (rerun hashed) ≡ true }
     ensures value { value (rerun itself) (file_of 1 0) ≡ Value (codes "hi!") }
-    ensures next_at_first { next (drop 9 rerun_past) ≡ Some (id 1) }
-    ensures next_while_there { next (drop 6 rerun_past) ≡ None }
-    ensures next_after_loss { next (drop 4 rerun_past) ≡ None }
-    ensures next_in_read { next (drop 3 rerun_past) ≡ Some (id 1) }
-    ensures next_at_end { next rerun_past ≡ None }
+    ensures next_at_first { next Strict (drop 9 rerun_past) ≡ Some (id 1) }
+    ensures next_while_there { next Strict (drop 6 rerun_past) ≡ None }
+    ensures next_after_loss { next Strict (drop 4 rerun_past) ≡ None }
+    ensures next_in_read { next Strict (drop 3 rerun_past) ≡ Some (id 1) }
+    ensures next_at_end { next Strict rerun_past ≡ None }
     ensures task { is_task (drop 3 rerun_past) (id 1) ≡ true }
     ensures no_task_after_loss { is_task (drop 4 rerun_past) (id 1) ≡ false }
     ensures no_put { is_task (drop 3 rerun_past) (id 0) ≡ false }

@@ -7,6 +7,7 @@ ghost use Rattle.tl_model.specs.Past.{without_tickets};
 ghost use Rattle.tl_model.specs.Plan.{next, prio};
 ghost use Rattle.tl_model.specs.Residency.{place, recency};
 ghost use Rattle.tl_model.specs.Rules.{ToFree, is_lawful, is_legal, lawful_judge, owed};
+ghost use Rattle.tl_model.specs.declared.header.OrderRule.TheVariants.{Strict};
 ghost use Rattle.tl_model.specs.declared.reply.Reply.TheVariants.{Fine};
 ghost use Rattle.tl_rows.specs.TwoOutputs.{two_outputs, two_outputs_past};
 ghost use Rattle.tl_rows.specs.Words.{at, call, cat, delete, file_of, hashed, header, id, itself, job, made, opened, then_text, worker};
@@ -29,7 +30,7 @@ pub fn two_outputs()
     ensures edge { edge (header 2 100 9) (drop 13 two_outputs_past) ≡ file_of 0 0 ∷ file_of 0 1 ∷ [] }
     ensures recency_again { recency (drop 8 two_outputs_past) (file_of 0 0) ≡ 7 }
     ensures other_recency_stays { recency (drop 8 two_outputs_past) (file_of 0 1) ≡ 2 }
-    ensures next_for_other { next (drop 3 two_outputs_past) ≡ Some (id 0) }
+    ensures next_for_other { next Strict (drop 3 two_outputs_past) ≡ Some (id 0) }
     ensures owes_free { owed lawful_judge (drop 12 (two_outputs itself)) ≡ ToFree (record { 0 = 0 }) (file_of 0 0) }
 {}
 

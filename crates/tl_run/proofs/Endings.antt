@@ -7,7 +7,7 @@ use Rattle.tl_script.specs.declared.script.Line.{Line}
 use Rattle.tl_run.specs.declared.status.Status.{Status}
 use Rattle.tl_run.specs.declared.status.Status.TheVariants.{Done, BadWords, BadScript, ReadFault, WriteFault, NoMemory, TooLong}
 use Rattle.tl_script.specs.Script.{IsScript, IsRefused}
-use Rattle.tl_run.specs.Alone.{Supply, Held, Kept, kept_with, Plays, Answers, Refuses, Wrote, WroteAnswer, Ends, EndsWith, Finishes}
+use Rattle.tl_run.specs.Alone.{Supply, Held, Kept, kept_with, Plays, SaysOfInput, Answers, Refuses, Wrote, WroteAnswer, Ends, EndsWith, Finishes}
 use Rattle.tl_core.specs.State.{State}
 use Rattle.tl_run.specs.Status.{code_of}
 use Rattle.tl_script.specs.Lines.{lines_of}
@@ -45,15 +45,15 @@ none-kept before after None status text answer is = refl
 none-kept before after (Some kept) status text answer is = absurd (subst (λ s. Answers before after (Some kept) s text) is answer)
 
 -- however the writing of an answer's text ended, the run left what its status says
-pub ends_as : (before after : Supply) (kept : Kept) (sink sink' : Held) (status ended : Status) (text : List ℕ) → Answers before after kept status text →
+pub ends_as : (before after : Supply) (kept : Kept) (sink sink' : Held) (status ended : Status) (text : List ℕ) → SaysOfInput status → Answers before after kept status text →
     Finishes sink sink' status text ended → Ends before after (kept_with ended kept) sink sink' ended
-ends_as before after kept sink sink' status ended text answer (inl done) =
+ends_as before after kept sink sink' status ended text says answer (inl done) =
     let same : kept_with ended kept ≡ kept = ap (λ s. kept_with s kept) done.0 ∙ kept-unless status kept (none-kept before after kept status text answer) in
     subst (λ k. Ends before after k sink sink' ended) (sym same)
     (subst (Ends before after kept sink sink') (sym done.0) (whole before after kept sink sink' status text answer done.1))
-ends_as before after kept sink sink' status ended text answer (inr (inl fault)) =
-    subst (λ s. Ends before after (kept_with s kept) sink sink' s) (sym fault.0) (fault.1, record { status = status; text = text; answer = answer; front = fault.2 })
-ends_as before after kept sink sink' status ended text answer (inr (inr memory)) =
+ends_as before after kept sink sink' status ended text says answer (inr (inl fault)) =
+    subst (λ s. Ends before after (kept_with s kept) sink sink' s) (sym fault.0) (fault.1, record { status = status; text = text; says = says; answer = answer; front = fault.2 })
+ends_as before after kept sink sink' status ended text says answer (inr (inr memory)) =
     subst (λ s. Ends before after (kept_with s kept) sink sink' s) (sym memory.0) (refl, (kept, record { status = status; text = text; answer = answer; front = memory.1 }))
 
 -- where nothing is written a front of an answer is
@@ -83,12 +83,12 @@ none-with TooLong = refl
 none-with NoMemory = refl
 
 -- the same of an answer with which nothing is kept
-pub ends_without : (before after : Supply) (kept : Kept) (sink sink' : Held) (status ended code : Status) (text : List ℕ) → Answers before after None status text →
+pub ends_without : (before after : Supply) (kept : Kept) (sink sink' : Held) (status ended code : Status) (text : List ℕ) → SaysOfInput status → Answers before after None status text →
     Finishes sink sink' status text ended → kept ≡ None → code ≡ ended → Ends before after kept sink sink' code
-ends_without before after kept sink sink' status ended code text answer finishes none is =
+ends_without before after kept sink sink' status ended code text says answer finishes none is =
     subst (λ k. Ends before after k sink sink' code) (sym none)
     (subst (Ends before after None sink sink') (sym is)
-    (subst (λ k. Ends before after k sink sink' ended) (none-with ended) (ends_as before after None sink sink' status ended text answer finishes)))
+    (subst (λ k. Ends before after k sink sink' ended) (none-with ended) (ends_as before after None sink sink' status ended text says answer finishes)))
 
 pub nothing_without : (before after : Supply) (kept : Kept) (sink : Held) (code : Status) → kept ≡ None → code ≡ NoMemory → Ends before after kept sink sink code
 nothing_without before after kept sink code none is =
@@ -98,7 +98,7 @@ nothing_without before after kept sink code none is =
 pub ends_keeping : (before after : Supply) (state : State (List ℕ)) (kept : Kept) (sink sink' : Held) (ended : Status) (text : List ℕ) → Plays before after state text →
     Finishes sink sink' Done text ended → kept ≡ kept_with ended (Some state) → Ends before after kept sink sink' ended
 ends_keeping before after state kept sink sink' ended text plays finishes is =
-    subst (λ k. Ends before after k sink sink' ended) (sym is) (ends_as before after (Some state) sink sink' Done ended text plays finishes)
+    subst (λ k. Ends before after k sink sink' ended) (sym is) (ends_as before after (Some state) sink sink' Done ended text tt plays finishes)
 
 refused-text : (before after : Supply) (kept : Kept) (sink sink' : Held) → WroteAnswer before after kept sink sink' BadScript → (text : List ℕ) × Refuses before after text
 refused-text before after None sink sink' left = (left.text, left.answer)

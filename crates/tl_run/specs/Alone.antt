@@ -104,6 +104,19 @@ pub record WroteFrontOfAnswer (before after : Supply) (kept : Kept) (sink sink' 
   pub answer : Answers before after kept status text
   pub front : WroteFront sink sink' text
 
+-- any status but want of memory says what the input was
+abbrev pub SaysOfInput : Status → Type 0
+SaysOfInput NoMemory = ⊥
+SaysOfInput _ = Unit {0}
+
+-- a front of what an answer about the input would have written; so a cluster is kept exactly where the input spells a script
+pub record WroteFrontOfInput (before after : Supply) (kept : Kept) (sink sink' : Held) : Type 0 where
+  pub status : Status
+  pub text : List ℕ
+  pub says : SaysOfInput status
+  pub answer : Answers before after kept status text
+  pub front : WroteFront sink sink' text
+
 -- what some answer of this status would write was written whole
 pub record WroteAnswer (before after : Supply) (kept : Kept) (sink sink' : Held) (status : Status) : Type 0 where
   pub text : List ℕ
@@ -112,7 +125,7 @@ pub record WroteAnswer (before after : Supply) (kept : Kept) (sink sink' : Held)
 
 -- what a run leaves with this status; what was kept is let go where memory ran out in writing
 abbrev pub Ends : Supply → Supply → Kept → Held → Held → Status → Type 0
-Ends before after kept sink sink' WriteFault = Rises sink.faults sink'.faults × WroteFrontOfAnswer before after kept sink sink'
+Ends before after kept sink sink' WriteFault = Rises sink.faults sink'.faults × WroteFrontOfInput before after kept sink sink'
 Ends before after kept sink sink' NoMemory = (kept ≡ None) × ((let_go : Kept) × WroteFrontOfAnswer before after let_go sink sink')
 Ends before after kept sink sink' status = WroteAnswer before after kept sink sink' status
 

@@ -10,6 +10,7 @@ use Rattle.tl_model.specs.declared.command.Form.{Form}
 use Rattle.tl_model.specs.declared.command.Form.TheVariants as form
 use Rattle.tl_model.specs.declared.event.Act.TheVariants as act
 use Rattle.tl_model.specs.declared.header.Header.{Header}
+use Rattle.tl_model.specs.declared.header.OrderRule.{OrderRule}
 use Rattle.tl_model.specs.History.{calls_of, reply_after}
 use Rattle.tl_model.specs.Rules.{holds, is_lawful}
 use Rattle.tl_core.specs.State.{undropped_judge}
@@ -34,19 +35,19 @@ abbrev pub IsLine : Header → Line → Type 0
 IsLine header line = (line.client ≤ client_limit) × IsOp header line.op
 
 -- a read waits for its file, or tries once
-abbrev pub IsReadAs : Events → Events → Actor → WorkerId → List (List ℕ) → ℕ → Form → Answer → Type 0
-IsReadAs before after actor worker path prio form.Cat said =
-    IsRead before after actor worker (command.Read path prio form.Cat) (reply_after (calls_of before) (command.Read path prio form.Cat)) said
-IsReadAs before after actor worker path prio form.Sum said =
-    IsRead before after actor worker (command.Read path prio form.Sum) (reply_after (calls_of before) (command.Read path prio form.Sum)) said
-IsReadAs before after actor worker path prio form.Try said =
+abbrev pub IsReadAs : OrderRule → Events → Events → Actor → WorkerId → List (List ℕ) → ℕ → Form → Answer → Type 0
+IsReadAs order before after actor worker path prio form.Cat said =
+    IsRead order before after actor worker (command.Read path prio form.Cat) (reply_after (calls_of before) (command.Read path prio form.Cat)) said
+IsReadAs order before after actor worker path prio form.Sum said =
+    IsRead order before after actor worker (command.Read path prio form.Sum) (reply_after (calls_of before) (command.Read path prio form.Sum)) said
+IsReadAs order before after actor worker path prio form.Try said =
     IsTried before after actor worker (command.Read path prio form.Try) (reply_after (calls_of before) (command.Read path prio form.Try)) said
 
 -- what a client's command leaves in the journal, and what the client is answered
 abbrev pub IsPiece : Header → Events → Events → ℕ → Op → Answer → Type 0
 IsPiece header before after c (Put path text) said = IsPut before after (client c) path text said
 IsPiece header before after c (Job core prio inputs outputs) said = IsSaid before after (client c) (command.Job core prio inputs outputs) said
-IsPiece header before after c (Read path prio form) said = IsReadAs before after (client c) (worker_of header c) path prio form said
+IsPiece header before after c (Read path prio form) said = IsReadAs header.order before after (client c) (worker_of header c) path prio form said
 IsPiece header before after c (Delete path) said = IsSaid before after (client c) (command.Delete path) said
 IsPiece header before after c (Mkdir path) said = IsSaid before after (client c) (command.Mkdir path) said
 IsPiece header before after c (Rename from to) said = IsSaid before after (client c) (command.Rename from to) said
@@ -57,7 +58,7 @@ IsPiece header before after c (Stat path) said = IsSaid before after (client c) 
 IsPiece header before after c (Free path) said = IsSaid before after (client c) (command.Free path) said
 IsPiece header before after c (Lose lost) said =
     (said ≡ answer.Lost lost) × (after ≡ record { actor = client c; act = act.Lose lost } ∷ before)
-IsPiece header before after c (Work at n) said = IsWorked before after (client c) at n said
+IsPiece header before after c (Work at n) said = IsWorked header.order before after (client c) at n said
 
 -- how the answer of a command is printed
 abbrev pub form_of : Op → Form

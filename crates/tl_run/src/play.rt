@@ -169,7 +169,7 @@ fn read_as(
     requires client { actor.0 < 8 }
     requires worker { worker.0 < cluster.old.header.workers }
     requires rest { IsAtRest (past_of cluster.old) actor }
-    ensures ok { IfOk result (IsReadAs cluster.old.events cluster.new.events actor worker path.now prio form) }
+    ensures ok { IfOk result (IsReadAs cluster.old.header.order cluster.old.events cluster.new.events actor worker path.now prio form) }
     ensures rest { IsAtRest (past_of cluster.new) actor }
     ensures same { SameOpen (past_of cluster.old) (past_of cluster.new) }
     ensures header { cluster.new.header ≡ cluster.old.header }

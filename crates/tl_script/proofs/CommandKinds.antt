@@ -1,5 +1,5 @@
 -- How a command alone is refused.
-use Rattle.std.proofs.Common.{◌≡◌, ◌⊎◌, ℕ, ◌≤◌, Bool, true, false, List, Option, Some, None, refl, sym, ◌∙◌, ap, subst, inl, inr, arith}
+use Rattle.std.proofs.Common.{◌≡◌, ℕ, ◌≤◌, Bool, true, false, List, Option, Some, sym, subst, inl, inr, arith}
 use Rattle.tl_model.specs.declared.header.Header.{Header}
 use Rattle.tl_script.specs.declared.bad_kind.BadKind.{BadKind}
 use Rattle.tl_script.specs.declared.bad_kind.BadKind.TheVariants as bad
@@ -49,12 +49,12 @@ inner_next (command header) (a_verb v) after h e = subst IsInner (same_some (aft
 inner_next (path_then place) (a_path p) after h e = subst IsInner (same_some place after e) h
 inner_next (number_then low below place) (a_number n) after h e = subst IsInner (when_same _ place after e) h
 inner_next (text_then place) (a_text s) after h e = subst IsInner (when_same _ place after e) h
-inner_next (settings keys) (a_mark mark_is.Conf) after h e = subst IsInner (when_same _ _ after e) tt
-inner_next (settings keys) (a_mark mark_is.In) after h e = subst IsInner (same_some _ after e) (λ n m. tt)
-inner_next (key keys) (a_text s) after h e = subst IsInner (when_same _ _ after e) tt
+inner_next (settings version keys) (a_mark mark_is.Conf) after h e = subst IsInner (when_same _ _ after e) tt
+inner_next (settings version keys) (a_mark mark_is.In) after h e = subst IsInner (same_some _ after e) (λ n m. tt)
+inner_next (key version keys) (a_text s) after h e = subst IsInner (when_same _ _ after e) tt
 inner_next (paths_then limit least count word place) (a_path p) after h e = subst IsInner (when_same _ _ after e) h
 inner_next (paths_then limit least count word place) (a_mark m) after h e = subst IsInner (when_same _ (place count) after e) (h count)
-inner_next (program_then reads makes) (a_program p) after h e = subst IsInner (when_same _ _ after e) tt
+inner_next (program_then version reads makes) (a_program p) after h e = subst IsInner (when_same _ _ after e) tt
 inner_next place token after h e = absurd (cc)
 
 abbrev IsOfCommand : BadKind → Type 0
@@ -72,12 +72,12 @@ refused_inner (command header) bytes kind h r = subst IsOfCommand (sym r) (omega
 refused_inner (path_then place) bytes kind h r = as_path kind r
 refused_inner (paths_then limit least count word place) bytes kind h (inl r) = as_path kind r.1
 refused_inner (paths_then limit least count word place) bytes kind h (inr r) = as_argument kind r.1
-refused_inner (program_then reads makes) bytes kind h (inl r) = subst IsOfCommand (sym r.1) (omega arith, omega arith)
-refused_inner (program_then reads makes) bytes kind h (inr r) = subst IsOfCommand (sym r.1) (omega arith, omega arith)
+refused_inner (program_then version reads makes) bytes kind h (inl r) = subst IsOfCommand (sym r.1) (omega arith, omega arith)
+refused_inner (program_then version reads makes) bytes kind h (inr r) = subst IsOfCommand (sym r.1) (omega arith, omega arith)
 refused_inner (number_then low below place) bytes kind h r = as_argument kind r
 refused_inner (text_then place) bytes kind h r = as_argument kind r
-refused_inner (settings keys) bytes kind h r = as_argument kind r
-refused_inner (key keys) bytes kind h r = as_argument kind r
+refused_inner (settings version keys) bytes kind h r = as_argument kind r
+refused_inner (key version keys) bytes kind h r = as_argument kind r
 refused_inner end bytes kind h r = as_argument kind r
 
 refused_from : {place : Place} {bytes : List ℕ} {kind : BadKind} → Refused place bytes kind → IsInner place → IsOfCommand kind

@@ -1,11 +1,12 @@
 -- The pairs of a configuration, as they are read.
-use Rattle.std.proofs.Common.{◌≡◌, ◌≢◌, ℕ, suc, ◌+◌, ◌<◌, ◌≤◌, Bool, true, false, not, ◌&&◌, ◌||◌, nat_le, nat_lt, List, [], ◌∷◌, ◌++◌, map, length, bytes_eq, refl, sym, ◌∙◌, ap, subst, arith}
+use Rattle.std.proofs.Common.{◌≡◌, ℕ, suc, ◌<◌, ◌≤◌, Bool, true, false, not, ◌&&◌, ◌||◌, nat_le, List, [], ◌∷◌, ◌++◌, length, bytes_eq, refl, sym, ◌∙◌, ap, subst, arith}
 use Rattle.std.specs.List.{list_any, list_all, AllByRecursion}
 use Rattle.std.specs.Global.{Vec}
-use Rattle.std.proofs.lemmas.Bool.{and_parts, and_from, le-leb, lt-ltb, leb-true, not-true, not_from_false, false_from_ne_true}
+use Rattle.std.proofs.lemmas.Bool.{and_parts, and_from, le-leb, lt-ltb, not-true, not_from_false}
 use Rattle.std.proofs.lemmas.Slice.Eq.{bytes_eq-Decides}
 use Rattle.tl_types.specs.Path.{IsPath}
 use Rattle.tl_lang.specs.Conf.{Pair, pair_of, pairs_of, is_short, keys_differ, is_conf}
+use Rattle.tl_model.specs.declared.header.Version.{Version}
 use Rattle.tl_script.specs.declared.word.Mark.{Mark}
 use Rattle.tl_script.specs.declared.word.Mark.TheVariants as mark_is
 use Rattle.tl_script.specs.Words.{mark_text}
@@ -14,7 +15,7 @@ use Rattle.tl_script.specs.Places.{Place, settings, key, text_then, paths_then, 
 use Rattle.tl_script.specs.Commands.{with_conf, with_paths, AreBytes}
 use Rattle.tl_script.specs.Reading.{keys_of, HaveBytes, AreConf, IsPair, Precede, RefusedToo}
 use Rattle.tl_script.proofs.Sayings.{or_false, or_from, bytes_differ}
-use Rattle.tl_script.proofs.Steps.{when_true, too_from, too_on, follows_spaced}
+use Rattle.tl_script.proofs.Steps.{too_from, too_on, follows_spaced}
 
 pub keys_test : (pairs : List (Vec ℕ × Vec ℕ)) (s : List ℕ) → list_any (λ p. bytes_eq p.0 s) (pairs_of pairs) ≡ has_key (keys_of pairs) s
 keys_test [] s = refl
@@ -97,28 +98,28 @@ conf_precedes text mid rest pairs p before stands = λ more e.
     (follows_spaced stands.0 (a_text p.0.items) stands.1 (a_text p.1.items ∷ more) stands.3 (follows_spaced stands.1 (a_text p.1.items) rest more stands.4 e)))
     ∙ ap spaced (sym (conf_behind (pairs_of pairs) (pair_of p) more) ∙ ap (λ (ps : List Pair). with_conf ps more) (sym (pairs_behind pairs p)))
 
-pub may_conf : (keys : List (List ℕ)) → length keys < conf_limit → next (settings keys) (a_mark mark_is.Conf) ≡ when true (key keys)
-may_conf keys few = ap (λ (b : Bool). when b (key keys)) (lt-ltb (length keys) conf_limit few)
+pub may_conf : (version : Version) (keys : List (List ℕ)) → length keys < conf_limit → next (settings version keys) (a_mark mark_is.Conf) ≡ when true (key version keys)
+may_conf version keys few = ap (λ (b : Bool). when b (key version keys)) (lt-ltb (length keys) conf_limit few)
 
-pub may_key : (keys : List (List ℕ)) (k : List ℕ) → length k ≤ text_limit → has_key keys k ≡ false → next (key keys) (a_text k) ≡ when true (text_then (settings (keys ++ k ∷ [])))
-may_key keys k short fresh =
-    ap (λ (b : Bool). when b (text_then (settings (keys ++ k ∷ [])))) (and_from (nat_le (length k) text_limit) (not (has_key keys k)) (le-leb (length k) text_limit short) (not_from_false (has_key keys k) fresh))
+pub may_key : (version : Version) (keys : List (List ℕ)) (k : List ℕ) → length k ≤ text_limit → has_key keys k ≡ false → next (key version keys) (a_text k) ≡ when true (text_then (settings version (keys ++ k ∷ [])))
+may_key version keys k short fresh =
+    ap (λ (b : Bool). when b (text_then (settings version (keys ++ k ∷ [])))) (and_from (nat_le (length k) text_limit) (not (has_key keys k)) (le-leb (length k) text_limit short) (not_from_false (has_key keys k) fresh))
 
 pub may_value : (after : Place) (v : List ℕ) → length v ≤ text_limit → next (text_then after) (a_text v) ≡ when true after
 may_value after v short = ap (λ (b : Bool). when b after) (le-leb (length v) text_limit short)
 
 -- what is refused behind a pair is refused before it
-pub pair_too : (pairs : List (Vec ℕ × Vec ℕ)) (p : Vec ℕ × Vec ℕ) (bytes rest : List ℕ) → length pairs < conf_limit → (length p.0.items ≤ text_limit) × (length p.1.items ≤ text_limit) → has_key (keys_of pairs) p.0.items ≡ false
-    → IsPair bytes p.0.items p.1.items rest → RefusedToo (settings (keys_of pairs)) bytes (settings (keys_of (pairs ++ p ∷ []))) rest
-pair_too pairs p bytes rest few short fresh stands =
+pub pair_too : (version : Version) (pairs : List (Vec ℕ × Vec ℕ)) (p : Vec ℕ × Vec ℕ) (bytes rest : List ℕ) → length pairs < conf_limit → (length p.0.items ≤ text_limit) × (length p.1.items ≤ text_limit) → has_key (keys_of pairs) p.0.items ≡ false
+    → IsPair bytes p.0.items p.1.items rest → RefusedToo (settings version (keys_of pairs)) bytes (settings version (keys_of (pairs ++ p ∷ []))) rest
+pair_too version pairs p bytes rest few short fresh stands =
     let keys = keys_of pairs in
     let same_length = keys_length pairs in
-    subst (λ (ks : List (List ℕ)). RefusedToo (settings (keys_of pairs)) bytes (settings ks) rest) (sym (keys_behind pairs p))
-    (too_on (settings (keys_of pairs)) (key (keys_of pairs)) (settings (keys_of pairs ++ p.0.items ∷ [])) bytes stands.0 rest
-    (too_from (settings (keys_of pairs)) (key (keys_of pairs)) bytes (a_mark mark_is.Conf) stands.0 stands.2 (may_conf (keys_of pairs) (omega (arith, same_length))))
-    (too_on (key (keys_of pairs)) (text_then (settings (keys_of pairs ++ p.0.items ∷ []))) (settings (keys_of pairs ++ p.0.items ∷ [])) stands.0 stands.1 rest
-    (too_from (key (keys_of pairs)) (text_then (settings (keys_of pairs ++ p.0.items ∷ []))) stands.0 (a_text p.0.items) stands.1 stands.3 (may_key (keys_of pairs) p.0.items short.0 fresh))
-    (too_from (text_then (settings (keys_of pairs ++ p.0.items ∷ []))) (settings (keys_of pairs ++ p.0.items ∷ [])) stands.1 (a_text p.1.items) rest stands.4 (may_value (settings (keys_of pairs ++ p.0.items ∷ [])) p.1.items short.1))))
+    subst (λ (ks : List (List ℕ)). RefusedToo (settings version (keys_of pairs)) bytes (settings version ks) rest) (sym (keys_behind pairs p))
+    (too_on (settings version (keys_of pairs)) (key version (keys_of pairs)) (settings version (keys_of pairs ++ p.0.items ∷ [])) bytes stands.0 rest
+    (too_from (settings version (keys_of pairs)) (key version (keys_of pairs)) bytes (a_mark mark_is.Conf) stands.0 stands.2 (may_conf version (keys_of pairs) (omega (arith, same_length))))
+    (too_on (key version (keys_of pairs)) (text_then (settings version (keys_of pairs ++ p.0.items ∷ []))) (settings version (keys_of pairs ++ p.0.items ∷ [])) stands.0 stands.1 rest
+    (too_from (key version (keys_of pairs)) (text_then (settings version (keys_of pairs ++ p.0.items ∷ []))) stands.0 (a_text p.0.items) stands.1 stands.3 (may_key version (keys_of pairs) p.0.items short.0 fresh))
+    (too_from (text_then (settings version (keys_of pairs ++ p.0.items ∷ []))) (settings version (keys_of pairs ++ p.0.items ∷ [])) stands.1 (a_text p.1.items) rest stands.4 (may_value (settings version (keys_of pairs ++ p.0.items ∷ [])) p.1.items short.1))))
 
 -- ---- lists of paths
 

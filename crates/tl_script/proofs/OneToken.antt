@@ -1,13 +1,11 @@
 -- A token stands at the front of bytes in one way only.
-use Rattle.std.proofs.Common.{◌≡◌, ◌≢◌, ℕ, ◌<◌, ◌≤◌, ◌^◌, Bool, true, false, not, ◌==◌, nat_le, ◌&&◌, if◌then◌else◌, List, [], ◌∷◌, ◌++◌, refl, sym, ◌∙◌, ap, subst, inl, inr, arith}
-use Rattle.std.specs.List.{All, AllByRecursion, list_all}
+use Rattle.std.proofs.Common.{◌≡◌, ◌≢◌, ℕ, Bool, true, false, not, ◌==◌, if◌then◌else◌, List, [], ◌∷◌, ◌++◌, refl, sym, ◌∙◌, ap, subst, inl, inr, arith}
+use Rattle.std.specs.List.{All, AllByRecursion}
 use Rattle.std.proofs.lemmas.List.Elements.{recursion_from_All}
-use Rattle.std.proofs.lemmas.Bool.{and_parts, and_from, le-leb, leb-true, cases_Bool, eqb-true, eq-eqb, not-true, not_from_false, false_from_ne_true}
+use Rattle.std.proofs.lemmas.Bool.{and_parts, and_from, cases_Bool, eqb-true, eq-eqb, not-true, not_from_false, false_from_ne_true}
 use Rattle.std.proofs.lemmas.List.{append-nil}
-use Rattle.std.specs.Char.{IsAsciiDigit}
 use Rattle.tl_types.specs.Path.{spelled}
-use Rattle.tl_text.specs.Number.{IsNumber, BeginsWithNoDigit}
-use Rattle.tl_text.specs.PathText.{EndsToken, IsPathText}
+use Rattle.tl_text.specs.PathText.{EndsToken}
 use Rattle.tl_text.proofs.Numbers.{one_number_stands}
 use Rattle.tl_text.proofs.Quotes.{one_quoted_stands}
 use Rattle.tl_text.proofs.Paths.{one_path_stands}

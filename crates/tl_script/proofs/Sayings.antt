@@ -1,20 +1,21 @@
 -- A command as tokens after one another, from its place to the end.
-use Rattle.std.proofs.Common.{◌≡◌, ◌≢◌, ℕ, zero, suc, ◌+◌, ◌<◌, ◌≤◌, ◌^◌, Bool, true, false, not, ◌&&◌, ◌||◌, nat_le, nat_lt, List, [], ◌∷◌, ◌++◌, length, Option, Some, None, bytes_eq, refl, sym, ◌∙◌, ap, subst, arith}
-use Rattle.std.specs.List.{All, AllByRecursion, list_all, list_any}
+use Rattle.std.proofs.Common.{◌≡◌, ℕ, suc, ◌+◌, ◌<◌, ◌≤◌, ◌^◌, Bool, true, false, not, ◌&&◌, ◌||◌, nat_le, nat_lt, ◌==◌, if◌then◌else◌, List, [], ◌∷◌, ◌++◌, length, Option, Some, None, bytes_eq, refl, sym, ◌∙◌, ap, subst, arith}
+use Rattle.std.specs.List.{AllByRecursion, list_all, list_any}
 use Rattle.std.specs.Option.{is_some}
-use Rattle.std.specs.Char.{IsAsciiDigit}
-use Rattle.std.proofs.lemmas.Bool.{and_parts, and_from, le-leb, lt-ltb, leb-true, not-true, not_from_false, false_from_ne_true}
+use Rattle.std.proofs.lemmas.Bool.{and_parts, and_from, le-leb, lt-ltb, leb-true, eqb-true, not-true, not_from_false, false_from_ne_true}
 use Rattle.std.proofs.lemmas.List.{append-nil}
 use Rattle.std.proofs.lemmas.Slice.Eq.{bytes_eq-Decides}
 use Rattle.tl_types.specs.Path.{IsPath}
 use Rattle.tl_text.specs.Number.{BeginsWithNoDigit}
 use Rattle.tl_text.specs.PathText.{EndsToken}
-use Rattle.tl_lang.specs.Conf.{Pair, is_conf, is_short, keys_differ}
+use Rattle.tl_lang.specs.Conf.{Pair, is_short, keys_differ}
 use Rattle.tl_lang.specs.declared.job.JobSpecCore.{JobSpecCore}
 use Rattle.tl_lang.specs.declared.program.Program.{Program}
-use Rattle.tl_lang.specs.Kinds.{refusal, KindsHold}
+use Rattle.tl_lang.specs.Kinds.{outputs_differ, refusal_in, refusal}
 use Rattle.tl_kind.specs.Written.{IsWithin, program_text}
 use Rattle.tl_model.specs.declared.header.Header.{Header}
+use Rattle.tl_model.specs.declared.header.Version.{Version}
+use Rattle.tl_model.specs.Limits.{input_limit, output_limit}
 use Rattle.tl_model.specs.declared.command.Form.TheVariants as form
 use Rattle.tl_script.specs.declared.script.Op.{Op}
 use Rattle.tl_script.specs.declared.script.Op.TheVariants.{Put, Job, Read, Delete, Mkdir, Rename, Pin, Unpin, List as ListNames, Stat, Free, Lose, Work}
@@ -23,8 +24,8 @@ use Rattle.tl_script.specs.declared.word.Mark.TheVariants as mark_is
 use Rattle.tl_script.specs.declared.word.Verb.TheVariants as verb_is
 use Rattle.tl_script.specs.Words.{mark_text}
 use Rattle.tl_script.specs.Tokens.{Token, a_verb, a_mark, a_number, a_path, a_text, a_program, token_text, spaced, Stands}
-use Rattle.tl_script.specs.Places.{Place, client, command, path_then, number_then, text_then, settings, key, paths_then, program_then, end, inputs, outputs, after_verb, when, next, has_key, may_end, Follows, prio_limit, fuel_limit, count_limit, text_limit, conf_limit, input_limit, output_limit}
-use Rattle.tl_script.specs.Commands.{verb_of, arguments_of, with_conf, with_paths, job_arguments, op_text, AreBytes, IsText, IsJob, IsOp, Says}
+use Rattle.tl_script.specs.Places.{Place, command, path_then, number_then, text_then, settings, key, paths_then, program_then, end, inputs, outputs, after_verb, is_of, next, has_key, may_end, Follows, prio_limit, fuel_limit, count_limit, text_limit, conf_limit}
+use Rattle.tl_script.specs.Commands.{verb_of, arguments_of, with_conf, with_paths, job_arguments, AreBytes, IsJob, IsOp, Says}
 use Rattle.tl_script.proofs.Steps.{when_true, within}
 
 abbrev pub tokens_of : Op → List Token
@@ -106,23 +107,23 @@ pub length_behind : (keys : List (List ℕ)) (k : List ℕ) → length (keys ++ 
 length_behind [] k = refl
 length_behind (first ∷ keys) k = ap suc (length_behind keys k)
 
-walks_conf : (keys : List (List ℕ)) (pairs : List Pair) (more : List Token) → length keys + length pairs ≤ conf_limit → list_all is_short pairs ≡ true → keys_differ pairs ≡ true → AreFresh keys pairs → Walks inputs more
-    → Walks (settings keys) (with_conf pairs (a_mark mark_is.In ∷ more))
-walks_conf keys [] more few short differ fresh walks = (inputs, refl, walks)
-walks_conf keys (p ∷ ps) more few short differ fresh walks =
+walks_conf : (version : Version) (keys : List (List ℕ)) (pairs : List Pair) (more : List Token) → length keys + length pairs ≤ conf_limit → list_all is_short pairs ≡ true → keys_differ pairs ≡ true → AreFresh keys pairs → Walks (inputs version) more
+    → Walks (settings version keys) (with_conf pairs (a_mark mark_is.In ∷ more))
+walks_conf version keys [] more few short differ fresh walks = (inputs version, refl, walks)
+walks_conf version keys (p ∷ ps) more few short differ fresh walks =
     let s = and_parts (is_short p) (list_all is_short ps) short in
     let lengths = and_parts (nat_le (length p.0) 1048576) (nat_le (length p.1) 1048576) s.0 in
     let d = and_parts (not (list_any (λ q. bytes_eq q.0 p.0) ps)) (keys_differ ps) differ in
     let one_more = length_behind keys p.0 in (
-      key keys,
-      when_true (nat_lt (length keys) conf_limit) (key keys) (lt-ltb (length keys) conf_limit (omega arith)),
+      key version keys,
+      when_true (nat_lt (length keys) conf_limit) (key version keys) (lt-ltb (length keys) conf_limit (omega arith)),
       (
-        text_then (settings (keys ++ p.0 ∷ [])),
-        when_true (nat_le (length p.0) text_limit && not (has_key keys p.0)) (text_then (settings (keys ++ p.0 ∷ []))) (and_from (nat_le (length p.0) text_limit) (not (has_key keys p.0)) lengths.0 (not_from_false (has_key keys p.0) fresh.0)),
+        text_then (settings version (keys ++ p.0 ∷ [])),
+        when_true (nat_le (length p.0) text_limit && not (has_key keys p.0)) (text_then (settings version (keys ++ p.0 ∷ []))) (and_from (nat_le (length p.0) text_limit) (not (has_key keys p.0)) lengths.0 (not_from_false (has_key keys p.0) fresh.0)),
         (
-          settings (keys ++ p.0 ∷ []),
-          when_true (nat_le (length p.1) text_limit) (settings (keys ++ p.0 ∷ [])) lengths.1,
-          walks_conf (keys ++ p.0 ∷ []) ps more (omega (arith, one_more)) s.1 d.1 (still_fresh keys p.0 ps (not-true (list_any (λ q. bytes_eq q.0 p.0) ps) d.0) fresh.1) walks,
+          settings version (keys ++ p.0 ∷ []),
+          when_true (nat_le (length p.1) text_limit) (settings version (keys ++ p.0 ∷ [])) lengths.1,
+          walks_conf version (keys ++ p.0 ∷ []) ps more (omega (arith, one_more)) s.1 d.1 (still_fresh keys p.0 ps (not-true (list_any (λ q. bytes_eq q.0 p.0) ps) d.0) fresh.1) walks,
         ),
       ),
     )
@@ -158,23 +159,37 @@ not_refused o e = ap (λ (o : Option ℕ). not (is_some o)) e
 kinds_for : (p : Program) (i o a b : ℕ) → refusal p i o ≡ None → i ≡ a → o ≡ b → refusal p a b ≡ None
 kinds_for p i o a b h e f = ap (λ (x : ℕ). refusal p x b) (sym e) ∙ ap (refusal p i) (sym f) ∙ h
 
-walks_job : (header : Header) (core : JobSpecCore) (prio : ℕ) (ins outs : List (List (List ℕ))) → IsJob core prio ins outs → Walks (after_verb header verb_is.Job) (job_arguments core prio ins outs)
+few_made : (p : Program) (i o : ℕ) (version : Version) → refusal p i o ≡ None → o ≤ output_limit version → is_of version p ≡ true
+few_made p i o version kinds few =
+    let made = eqb-true (length p.outputs) o (kept (length p.outputs == o) (refusal_in i p.outputs) kinds) in
+    le-leb (length p.outputs) (output_limit version) (omega (arith, made, few))
+  where
+    kept : (b : Bool) (inner : Option ℕ) → (if b then inner else Some outputs_differ) ≡ None → b ≡ true
+    kept true inner e = refl
+    kept false inner e = absurd (cc)
+
+walks_job : (header : Header) (core : JobSpecCore) (prio : ℕ) (ins outs : List (List (List ℕ))) → IsJob header.version core prio ins outs → Walks (after_verb header verb_is.Job) (job_arguments core prio ins outs)
 walks_job header core prio ins outs h =
     let conf = and_parts (nat_le (length core.conf) 16 && list_all is_short core.conf) (keys_differ core.conf) h.conf in
     let short = and_parts (nat_le (length core.conf) 16) (list_all is_short core.conf) conf.0 in
     let few = leb-true (length core.conf) 16 short.0 in
     let kinds = kinds_for core.program.program core.program.inputs core.program.outputs (length ins) (length outs) h.kinds h.for_inputs h.for_outputs in (
-      number_then 1 (fuel_limit + 1) (settings []),
-      when_true (nat_le 0 prio && nat_lt prio (prio_limit + 1)) (number_then 1 (fuel_limit + 1) (settings [])) (within 0 (prio_limit + 1) prio (omega arith) (omega (arith, h.priority))),
+      number_then 1 (fuel_limit + 1) (settings header.version []),
+      when_true (nat_le 0 prio && nat_lt prio (prio_limit + 1)) (number_then 1 (fuel_limit + 1) (settings header.version [])) (within 0 (prio_limit + 1) prio (omega arith) (omega (arith, h.priority))),
       (
-        settings [],
-        when_true (nat_le 1 core.fuel && nat_lt core.fuel (fuel_limit + 1)) (settings []) (within 1 (fuel_limit + 1) core.fuel h.some_fuel (omega (arith, h.fuel))),
-        walks_conf [] core.conf (with_paths ins (a_mark mark_is.Out ∷ with_paths outs (a_mark mark_is.Run ∷ a_program core.program.program ∷ []))) (omega (arith, few)) short.1 conf.1 (all_fresh core.conf)
+        settings header.version [],
+        when_true (nat_le 1 core.fuel && nat_lt core.fuel (fuel_limit + 1)) (settings header.version []) (within 1 (fuel_limit + 1) core.fuel h.some_fuel (omega (arith, h.fuel))),
+        walks_conf header.version [] core.conf (with_paths ins (a_mark mark_is.Out ∷ with_paths outs (a_mark mark_is.Run ∷ a_program core.program.program ∷ []))) (omega (arith, few)) short.1 conf.1 (all_fresh core.conf)
             (
-            walks_paths input_limit 0 0 (length ins) mark_is.Out outputs ins (with_paths outs (a_mark mark_is.Run ∷ a_program core.program.program ∷ [])) (omega arith) h.few_inputs (omega arith)
+            walks_paths (input_limit header.version) 0 0 (length ins) mark_is.Out (outputs header.version) ins (with_paths outs (a_mark mark_is.Run ∷ a_program core.program.program ∷ [])) (omega arith) h.few_inputs (omega arith)
             (
-            walks_paths output_limit 1 0 (length outs) mark_is.Run (program_then (length ins)) outs (a_program core.program.program ∷ []) (omega arith) h.few_outputs h.some_output
-            (end, when_true (not (is_some (refusal core.program.program (length ins) (length outs)))) end (not_refused (refusal core.program.program (length ins) (length outs)) kinds), refl)
+            walks_paths (output_limit header.version) 1 0 (length outs) mark_is.Run (program_then header.version (length ins)) outs (a_program core.program.program ∷ []) (omega arith) h.few_outputs h.some_output (
+              end,
+              when_true (is_of header.version core.program.program && not (is_some (refusal core.program.program (length ins) (length outs)))) end
+                  (and_from (is_of header.version core.program.program) (not (is_some (refusal core.program.program (length ins) (length outs))))
+                  (few_made core.program.program (length ins) (length outs) header.version kinds h.few_outputs) (not_refused (refusal core.program.program (length ins) (length outs)) kinds)),
+              refl,
+            )
             )
             ),
       ),
@@ -188,8 +203,8 @@ say_paths : (paths : List (List (List ℕ))) (more : List Token) → AllByRecurs
 say_paths [] more h m = m
 say_paths (p ∷ ps) more h m = (h.0, say_paths ps more h.1 m)
 
-say_job : (core : JobSpecCore) (prio : ℕ) (ins outs : List (List (List ℕ))) → IsJob core prio ins outs → AllSayable (job_arguments core prio ins outs)
-say_job core prio ins outs h =
+say_job : (version : Version) (core : JobSpecCore) (prio : ℕ) (ins outs : List (List (List ℕ))) → IsJob version core prio ins outs → AllSayable (job_arguments core prio ins outs)
+say_job version core prio ins outs h =
     let last : AllSayable (a_mark mark_is.Run ∷ a_program core.program.program ∷ []) = (tt, ((h.program, refl), tt)) in
     let makes : AllSayable (a_mark mark_is.Out ∷ with_paths outs (a_mark mark_is.Run ∷ a_program core.program.program ∷ [])) = (tt, say_paths outs (a_mark mark_is.Run ∷ a_program core.program.program ∷ []) h.output_paths last) in
     let reads : AllSayable (a_mark mark_is.In ∷ with_paths ins (a_mark mark_is.Out ∷ with_paths outs (a_mark mark_is.Run ∷ a_program core.program.program ∷ []))) = (tt, say_paths ins (a_mark mark_is.Out ∷ with_paths outs (a_mark mark_is.Run ∷ a_program core.program.program ∷ [])) h.input_paths makes) in
@@ -229,7 +244,7 @@ walks_op header op h = (after_verb header (verb_of op), refl, walks_arguments he
 
 say_arguments : (header : Header) (op : Op) → header.workers < 2 ^ 8 → IsOp header op → AllSayable (arguments_of op)
 say_arguments header (Put at bytes) w h = (h.0, (h.1.are_bytes, tt))
-say_arguments header (Job core prio ins outs) w h = say_job core prio ins outs h
+say_arguments header (Job core prio ins outs) w h = say_job header.version core prio ins outs h
 say_arguments header (Read at prio form) w h = (omega (arith, h.1), (h.0, tt))
 say_arguments header (Delete at) w h = (h, tt)
 say_arguments header (Mkdir at) w h = (h, tt)

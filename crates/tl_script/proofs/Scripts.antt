@@ -1,11 +1,12 @@
 -- A script is said in one way, and is not refused; a text is refused in one way.
-use Rattle.std.proofs.Common.{◌≡◌, ◌≢◌, ◌⊎◌, ℕ, ◌+◌, ◌<◌, ◌≤◌, ◌^◌, Bool, true, false, ◌==◌, List, [], ◌∷◌, ◌++◌, length, codes, Result, Ok, Err, refl, sym, ◌∙◌, ap, subst, inl, inr, arith}
-use Rattle.std.specs.Prelude.{decimal, IfOk, IfErr}
+use Rattle.std.proofs.Common.{◌≡◌, ℕ, ◌+◌, ◌<◌, ◌^◌, Bool, true, false, ◌==◌, List, [], ◌∷◌, ◌++◌, length, codes, Result, Ok, Err, refl, sym, ◌∙◌, ap, subst, inl, inr, arith}
+use Rattle.std.specs.Prelude.{IfOk, IfErr}
 use Rattle.std.proofs.lemmas.Bool.{le-leb, eqb-true}
-use Rattle.std.proofs.lemmas.List.{append-nil, append_assoc}
-use Rattle.tl_kind.specs.Refusals.{is_digit, begins_with_digit}
+use Rattle.std.proofs.lemmas.List.{append-nil}
+use Rattle.tl_kind.specs.Refusals.{begins_with_digit}
 use Rattle.tl_kind.proofs.Readings.{number_begins}
 use Rattle.tl_model.specs.declared.header.Header.{Header}
+use Rattle.tl_model.specs.declared.header.Version.{Version}
 use Rattle.tl_script.specs.declared.bad_kind.BadKind.{BadKind}
 use Rattle.tl_script.specs.declared.script.Op.{Op}
 use Rattle.tl_script.specs.declared.script.Line.{Line}
@@ -13,14 +14,13 @@ use Rattle.tl_script.specs.declared.script.Script.{Script}
 use Rattle.tl_script.specs.declared.script.ScriptError.{ScriptError}
 use Rattle.tl_script.specs.declared.script.ScriptError.TheVariants.{Bad, NoMemory}
 use Rattle.tl_script.specs.Lines.{lines_of}
-use Rattle.tl_script.specs.Tokens.{Token, a_number, Stands}
-use Rattle.tl_script.specs.Places.{client, command, Follows, Refused, client_limit}
-use Rattle.tl_script.specs.Commands.{IsOp}
-use Rattle.tl_script.specs.Script.{HeaderSays, is_skipped, IsSkipped, LineSays, SaysEntry, SayAll, IsScript, RefusedHeader, RefusedLine, IsRight, IsFirstBad, IsRefused, IsBadScript, Reads}
+use Rattle.tl_script.specs.Tokens.{a_number, Stands}
+use Rattle.tl_script.specs.Places.{client, command, client_limit}
+use Rattle.tl_script.specs.Script.{order_text, HeaderSays, is_skipped, IsSkipped, LineSays, SaysEntry, SayAll, IsScript, RefusedHeader, RefusedLine, IsRight, IsFirstBad, IsRefused, IsBadScript, Reads}
 use Rattle.tl_script.proofs.OneToken.{other_byte}
 use Rattle.tl_script.proofs.Steps.{when_true}
 use Rattle.tl_script.proofs.Sayings.{tokens_of, Stand, Walks, stand, say_op, walks_op}
-use Rattle.tl_script.proofs.Headers.{behind, no_digit_workers, no_digit_capacity, behind_workers, behind_capacity, hot_last}
+use Rattle.tl_script.proofs.Headers.{behind, no_digit_workers, no_digit_capacity, no_digit_order, behind_version, behind_workers, behind_capacity, one_version, one_order}
 use Rattle.tl_script.proofs.Unique.{never, one_kind_stands, one_tokens, same_op}
 
 -- ---- a line
@@ -116,10 +116,12 @@ narrow line h says = omega (arith, says.header.workers)
 
 one_header : (line : List ℕ) (h k : Header) → HeaderSays line h → HeaderSays line k → h ≡ k
 one_header line h k a b =
-    let w = behind line (codes "tachyon 1 workers ") h.workers k.workers (behind_workers h) (behind_workers k) a.spelled_so b.spelled_so (omega (arith, a.header.workers)) (omega (arith, b.header.workers)) (no_digit_workers h) (no_digit_workers k) in
+    let v = one_version line h.version k.version (behind_version h) (behind_version k) a.spelled_so b.spelled_so in
+    let w = behind (behind_version h) (codes " workers ") h.workers k.workers (behind_workers h) (behind_workers k) refl v.1 (omega (arith, a.header.workers)) (omega (arith, b.header.workers)) (no_digit_workers h) (no_digit_workers k) in
     let c = behind (behind_workers h) (codes " capacity ") h.capacity k.capacity (behind_capacity h) (behind_capacity k) refl w.1 (omega (arith, a.header.capacity)) (omega (arith, b.header.capacity)) (no_digit_capacity h) (no_digit_capacity k) in
-    let t = behind (behind_capacity h) (codes " hot ") h.hot k.hot [] [] (hot_last h (behind_capacity h) refl) (hot_last k (behind_capacity h) c.1) (omega (arith, a.header.hot)) (omega (arith, b.header.hot)) tt tt in
-    λ j. record { workers = w.0 j; capacity = c.0 j; hot = t.0 j }
+    let t = behind (behind_capacity h) (codes " hot ") h.hot k.hot (order_text h.version h.order) (order_text k.version k.order) refl c.1 (omega (arith, a.header.hot)) (omega (arith, b.header.hot)) (no_digit_order h.version h.order) (no_digit_order k.version k.order) in
+    let o = one_order h.version h.order k.order (t.1 ∙ ap (λ (v : Version). order_text v k.order) (sym v.0)) in
+    λ j. record { workers = w.0 j; capacity = c.0 j; hot = t.0 j; order = o j; version = v.0 j }
 
 one_header_kind : (line : List ℕ) (kind other : BadKind) → RefusedHeader line kind → RefusedHeader line other → kind ≡ other
 one_header_kind line kind other (inl a) (inl b) = a.1 ∙ sym b.1

@@ -1,13 +1,12 @@
 -- The steps of a reader: a token that stands right, and what is refused behind it.
-use Rattle.std.proofs.Common.{◌≡◌, ◌≢◌, ◌⊎◌, ℕ, Bool, true, false, not, nat_le, nat_lt, ◌&&◌, ◌<◌, ◌≤◌, List, [], ◌∷◌, ◌++◌, length, Option, Some, None, Result, IfErr, refl, sym, ◌∙◌, ap, subst, inl, inr, arith}
+use Rattle.std.proofs.Common.{◌≡◌, ℕ, Bool, true, false, nat_le, nat_lt, ◌&&◌, ◌<◌, ◌≤◌, List, ◌∷◌, ◌++◌, Option, Some, None, Result, IfErr, refl, sym, ◌∙◌, ap, subst}
 use Rattle.std.specs.Result.{IsErrAnd}
-use Rattle.std.proofs.lemmas.Bool.{and_from, and_parts, le-leb, lt-ltb, leb-true, ltb-true, cases_Bool}
+use Rattle.std.proofs.lemmas.Bool.{and_from, and_parts, le-leb, lt-ltb, leb-true, ltb-true}
 use Rattle.std.proofs.lemmas.Result.{err_from_is_err_and}
-use Rattle.tl_text.specs.PathText.{EndsToken}
 use Rattle.tl_script.specs.declared.bad_kind.BadKind.{BadKind}
 use Rattle.tl_script.specs.declared.stop.Stop.{Stop}
 use Rattle.tl_script.specs.declared.stop.Stop.TheVariants as stop
-use Rattle.tl_script.specs.Tokens.{Token, token_text, spaced, Stands}
+use Rattle.tl_script.specs.Tokens.{Token, token_text, spaced}
 use Rattle.tl_script.specs.Places.{Place, when, next, Follows, Refused, later}
 use Rattle.tl_script.specs.Reading.{StopsAs, RefusedToo}
 use Rattle.tl_script.proofs.OneToken.{text_of}

@@ -1,13 +1,10 @@
 -- Nothing is said and refused, and nothing is said or refused in two ways.
-use Rattle.std.proofs.Common.{◌≡◌, ◌≢◌, ◌⊎◌, ℕ, ◌+◌, ◌<◌, ◌≤◌, ◌^◌, Bool, true, false, ◌==◌, List, [], ◌∷◌, ◌++◌, length, codes, Option, Some, None, Result, Ok, Err, refl, sym, ◌∙◌, ap, subst, inl, inr, arith}
-use Rattle.std.specs.Prelude.{decimal, IfOk, IfErr}
-use Rattle.tl_text.specs.Number.{IsNumber}
+use Rattle.std.proofs.Common.{◌≡◌, ◌⊎◌, ℕ, ◌<◌, ◌^◌, Bool, true, false, List, [], ◌∷◌, length, Option, Some, None, Result, Ok, Err, refl, sym, ◌∙◌, ap, subst, inl, inr}
+use Rattle.std.specs.Prelude.{IfOk, IfErr}
 use Rattle.tl_lang.specs.Conf.{Pair}
 use Rattle.tl_lang.specs.declared.job.JobSpecCore.{JobSpecCore}
-use Rattle.tl_lang.specs.declared.program.Program.{Program}
-use Rattle.tl_kind.specs.Refusals.{is_digit, begins_with_digit}
-use Rattle.tl_kind.proofs.Readings.{number_begins}
 use Rattle.tl_model.specs.declared.header.Header.{Header}
+use Rattle.tl_model.specs.declared.header.Version.{Version}
 use Rattle.tl_model.specs.declared.command.Form.{Form}
 use Rattle.tl_model.specs.declared.command.Form.TheVariants as form
 use Rattle.tl_script.specs.declared.bad_kind.BadKind.{BadKind}
@@ -20,9 +17,9 @@ use Rattle.tl_script.specs.declared.word.Verb.{Verb}
 use Rattle.tl_script.specs.declared.word.Verb.TheVariants as verb_is
 use Rattle.tl_script.specs.declared.word.Mark.{Mark}
 use Rattle.tl_script.specs.declared.word.Mark.TheVariants as mark_is
-use Rattle.tl_script.specs.Tokens.{Token, a_verb, a_mark, a_number, a_path, a_text, a_program, spaced, Stands}
+use Rattle.tl_script.specs.Tokens.{Token, a_mark, a_program, Stands}
 use Rattle.tl_script.specs.Places.{Place, client, command, path_then, number_then, text_then, settings, key, paths_then, program_then, end, next, may_end, RefusedAs, Follows, Refused, missing, wrong, later}
-use Rattle.tl_script.specs.Commands.{verb_of_form, verb_of, arguments_of, with_conf, with_paths, IsJob, IsOp, Says, IsRefusedOp, ReadsOp}
+use Rattle.tl_script.specs.Commands.{verb_of_form, verb_of, with_conf, with_paths, IsJob, IsOp, Says, IsRefusedOp, ReadsOp}
 use Rattle.tl_script.proofs.OneToken.{one_token}
 use Rattle.tl_script.proofs.Sayings.{tokens_of, Stand, Walks, walks_op, said_stand}
 
@@ -85,10 +82,10 @@ kinds_same (command header) bytes k k' a b = a ∙ sym b
 kinds_same (path_then place) bytes k k' a b = a ∙ sym b
 kinds_same (number_then low below place) bytes k k' a b = a ∙ sym b
 kinds_same (text_then place) bytes k k' a b = a ∙ sym b
-kinds_same (settings keys) bytes k k' a b = a ∙ sym b
-kinds_same (key keys) bytes k k' a b = a ∙ sym b
+kinds_same (settings version keys) bytes k k' a b = a ∙ sym b
+kinds_same (key version keys) bytes k k' a b = a ∙ sym b
 kinds_same (paths_then limit least count word place) bytes k k' a b = kinds_in_list _ k k' a b
-kinds_same (program_then reads makes) bytes k k' a b = kinds_of_program _ k k' a b
+kinds_same (program_then version reads makes) bytes k k' a b = kinds_of_program _ k k' a b
 kinds_same end bytes k k' a b = a ∙ sym b
 
 -- nothing is refused as two kinds
@@ -141,9 +138,9 @@ same_paths m (p ∷ ps) (q ∷ qs) more other e =
     let rest = same_paths m ps qs more other left in
     (λ j. first j ∷ rest.0 j, rest.1)
 
-same_job : (core other : JobSpecCore) (prio prio' : ℕ) (ins ins' outs outs' : List (List (List ℕ))) → IsJob core prio ins outs → IsJob other prio' ins' outs'
+same_job : (version : Version) (core other : JobSpecCore) (prio prio' : ℕ) (ins ins' outs outs' : List (List (List ℕ))) → IsJob version core prio ins outs → IsJob version other prio' ins' outs'
     → tokens_of (Job core prio ins outs) ≡ tokens_of (Job other prio' ins' outs') → Job core prio ins outs ≡ Job other prio' ins' outs'
-same_job core other prio prio' ins ins' outs outs' h k e =
+same_job version core other prio prio' ins ins' outs outs' h k e =
     let prio_is : prio ≡ prio' = cc in
     let fuel_is : core.fuel ≡ other.fuel = cc in
     let after_fuel : with_conf core.conf (a_mark mark_is.In ∷ with_paths ins (a_mark mark_is.Out ∷ with_paths outs (a_mark mark_is.Run ∷ a_program core.program.program ∷ [])))
@@ -190,7 +187,7 @@ same_shape op other e = let word : verb_of op ≡ verb_of other = cc in shape_of
 pub same_op : (header : Header) (op other : Op) → IsOp header op → IsOp header other → tokens_of op ≡ tokens_of other → op ≡ other
 unfolding shape
 same_op header (Put at s) (Put at' s') h k e = let a : at ≡ at' = cc in let b : s ≡ s' = cc in λ j. Put (a j) (b j)
-same_op header (Job core prio ins outs) (Job other prio' ins' outs') h k e = same_job core other prio prio' ins ins' outs outs' h k e
+same_op header (Job core prio ins outs) (Job other prio' ins' outs') h k e = same_job header.version core other prio prio' ins ins' outs outs' h k e
 same_op header (Read at prio f) (Read at' prio' f') h k e =
     let a : at ≡ at' = cc in
     let p : prio ≡ prio' = cc in

@@ -1,14 +1,15 @@
 -- What is wrong at each place.
-use Rattle.std.proofs.Common.{◌≡◌, ◌≢◌, ◌⊎◌, ℕ, suc, Bool, true, false, not, nat_le, nat_lt, ◌&&◌, ◌==◌, ◌<◌, ◌≤◌, List, [], ◌∷◌, ◌++◌, length, Option, Some, None, bytes_eq, if◌then◌else◌, refl, sym, ◌∙◌, ap, subst, inl, inr, arith}
-use Rattle.std.specs.List.{list_any}
+use Rattle.std.proofs.Common.{◌≡◌, ◌⊎◌, ℕ, suc, Bool, true, false, not, nat_le, nat_lt, ◌&&◌, ◌<◌, ◌≤◌, List, [], ◌∷◌, ◌++◌, length, Option, Some, None, bytes_eq, if◌then◌else◌, refl, sym, ◌∙◌, ap, subst, inl, inr, arith}
 use Rattle.std.specs.Option.{is_some}
-use Rattle.std.proofs.lemmas.Bool.{and_parts, leb-true, ltb-true, not-true}
+use Rattle.std.proofs.lemmas.Bool.{and_parts, le-leb, leb-true, ltb-true, not-true}
 use Rattle.tl_text.specs.PathText.{EndsToken, IsPathText}
 use Rattle.tl_lang.specs.declared.program.Program.{Program}
 use Rattle.tl_lang.specs.Kinds.{refusal}
 use Rattle.tl_kind.specs.Written.{IsProgram}
+use Rattle.tl_kind.proofs.Never.{one_program_stands}
 use Rattle.tl_model.specs.declared.header.Header.{Header}
-use Rattle.tl_script.specs.declared.bad_kind.BadKind.{BadKind}
+use Rattle.tl_model.specs.declared.header.Version.{Version}
+use Rattle.tl_model.specs.Limits.{output_limit}
 use Rattle.tl_script.specs.declared.bad_kind.BadKind.TheVariants as bad
 use Rattle.tl_script.specs.declared.stop.Stop.{Stop}
 use Rattle.tl_script.specs.declared.stop.Stop.TheVariants as stop
@@ -17,7 +18,7 @@ use Rattle.tl_script.specs.declared.word.Mark.{Mark}
 use Rattle.tl_script.specs.declared.word.Mark.TheVariants as mark_is
 use Rattle.tl_script.specs.Words.{mark_text}
 use Rattle.tl_script.specs.Tokens.{Token, a_verb, a_mark, a_number, a_path, a_text, a_program, Stands}
-use Rattle.tl_script.specs.Places.{Place, client, command, path_then, number_then, text_then, settings, key, paths_then, program_then, end, when, next, has_key, begins_with_slash, IsBadPath, IsSomeProgram, IsWrong, Follows, Refused, missing, wrong, client_limit, text_limit, conf_limit}
+use Rattle.tl_script.specs.Places.{Place, client, command, path_then, number_then, text_then, settings, key, paths_then, program_then, end, is_of, next, has_key, begins_with_slash, IsBadPath, IsWrong, Follows, Refused, missing, wrong, client_limit, text_limit, conf_limit}
 use Rattle.tl_script.specs.Reading.{StopsAs}
 use Rattle.tl_script.proofs.WordTables.{same_bytes, same_mark}
 use Rattle.tl_script.proofs.OneToken.{one_token}
@@ -84,33 +85,33 @@ wrong_text after bytes none (a_program p) rest h = refl
 
 -- ---- a configuration
 
-pub wrong_key : (keys : List (List ℕ)) (bytes : List ℕ) → ((s : List ℕ) (rest : List ℕ) → length s ≤ text_limit → has_key keys s ≡ false → ¬ Stands bytes (a_text s) rest) → IsWrong (key keys) bytes
-wrong_key keys bytes none (a_verb v) rest h = refl
-wrong_key keys bytes none (a_mark m) rest h = refl
-wrong_key keys bytes none (a_number n) rest h = refl
-wrong_key keys bytes none (a_path p) rest h = refl
-wrong_key keys bytes none (a_text s) rest h =
-    when_not (nat_le (length s) text_limit && not (has_key keys s)) (text_then (settings (keys ++ s ∷ [])))
+pub wrong_key : (version : Version) (keys : List (List ℕ)) (bytes : List ℕ) → ((s : List ℕ) (rest : List ℕ) → length s ≤ text_limit → has_key keys s ≡ false → ¬ Stands bytes (a_text s) rest) → IsWrong (key version keys) bytes
+wrong_key version keys bytes none (a_verb v) rest h = refl
+wrong_key version keys bytes none (a_mark m) rest h = refl
+wrong_key version keys bytes none (a_number n) rest h = refl
+wrong_key version keys bytes none (a_path p) rest h = refl
+wrong_key version keys bytes none (a_text s) rest h =
+    when_not (nat_le (length s) text_limit && not (has_key keys s)) (text_then (settings version (keys ++ s ∷ [])))
     (λ fits. let both = and_parts (nat_le (length s) text_limit) (not (has_key keys s)) fits in none s rest (leb-true (length s) text_limit both.0) (not-true (has_key keys s) both.1) h)
-wrong_key keys bytes none (a_program p) rest h = refl
+wrong_key version keys bytes none (a_program p) rest h = refl
 
-pub wrong_setting : (keys : List (List ℕ)) (bytes : List ℕ) → ((rest : List ℕ) → ¬ Stands bytes (a_mark mark_is.In) rest) → ((rest : List ℕ) → length keys < conf_limit → ¬ Stands bytes (a_mark mark_is.Conf) rest) → IsWrong (settings keys) bytes
-wrong_setting keys bytes no_in no_conf (a_verb v) rest h = refl
-wrong_setting keys bytes no_in no_conf (a_mark mark_is.Conf) rest h = when_not (nat_lt (length keys) conf_limit) (key keys) (λ fits. no_conf rest (ltb-true (length keys) conf_limit fits) h)
-wrong_setting keys bytes no_in no_conf (a_mark mark_is.In) rest h = absurd (no_in rest h)
-wrong_setting keys bytes no_in no_conf (a_mark mark_is.Out) rest h = refl
-wrong_setting keys bytes no_in no_conf (a_mark mark_is.Run) rest h = refl
-wrong_setting keys bytes no_in no_conf (a_number n) rest h = refl
-wrong_setting keys bytes no_in no_conf (a_path p) rest h = refl
-wrong_setting keys bytes no_in no_conf (a_text s) rest h = refl
-wrong_setting keys bytes no_in no_conf (a_program p) rest h = refl
+pub wrong_setting : (version : Version) (keys : List (List ℕ)) (bytes : List ℕ) → ((rest : List ℕ) → ¬ Stands bytes (a_mark mark_is.In) rest) → ((rest : List ℕ) → length keys < conf_limit → ¬ Stands bytes (a_mark mark_is.Conf) rest) → IsWrong (settings version keys) bytes
+wrong_setting version keys bytes no_in no_conf (a_verb v) rest h = refl
+wrong_setting version keys bytes no_in no_conf (a_mark mark_is.Conf) rest h = when_not (nat_lt (length keys) conf_limit) (key version keys) (λ fits. no_conf rest (ltb-true (length keys) conf_limit fits) h)
+wrong_setting version keys bytes no_in no_conf (a_mark mark_is.In) rest h = absurd (no_in rest h)
+wrong_setting version keys bytes no_in no_conf (a_mark mark_is.Out) rest h = refl
+wrong_setting version keys bytes no_in no_conf (a_mark mark_is.Run) rest h = refl
+wrong_setting version keys bytes no_in no_conf (a_number n) rest h = refl
+wrong_setting version keys bytes no_in no_conf (a_path p) rest h = refl
+wrong_setting version keys bytes no_in no_conf (a_text s) rest h = refl
+wrong_setting version keys bytes no_in no_conf (a_program p) rest h = refl
 
 -- where `in` does not stand, and `conf` does not or none may
-pub refused_setting : (keys : List (List ℕ)) (bytes : List ℕ) → EndsToken bytes → ((rest : List ℕ) → ¬ Follows bytes (a_mark mark_is.In) rest) → ((rest : List ℕ) → length keys < conf_limit → ¬ Follows bytes (a_mark mark_is.Conf) rest) → Refused (settings keys) bytes bad.Argument
-refused_setting keys [] ended no_in no_conf = missing refl refl refl
-refused_setting keys (b ∷ bs) ended no_in no_conf =
+pub refused_setting : (version : Version) (keys : List (List ℕ)) (bytes : List ℕ) → EndsToken bytes → ((rest : List ℕ) → ¬ Follows bytes (a_mark mark_is.In) rest) → ((rest : List ℕ) → length keys < conf_limit → ¬ Follows bytes (a_mark mark_is.Conf) rest) → Refused (settings version keys) bytes bad.Argument
+refused_setting version keys [] ended no_in no_conf = missing refl refl refl
+refused_setting version keys (b ∷ bs) ended no_in no_conf =
     let e : b ∷ bs ≡ 0x20 ∷ bs = ap (λ (x : ℕ). x ∷ bs) ended in
-    wrong bs e (wrong_setting keys bs (λ rest h. no_in rest (bs, e, h)) (λ rest few h. no_conf rest few (bs, e, h))) refl
+    wrong bs e (wrong_setting version keys bs (λ rest h. no_in rest (bs, e, h)) (λ rest few h. no_conf rest few (bs, e, h))) refl
 
 -- ---- lists of paths
 
@@ -169,13 +170,16 @@ refused_few limit least count word after bytes rest f few =
 
 -- ---- programs
 
-pub wrong_program : (reads makes : ℕ) (bytes : List ℕ) → ((p : Program) (rest : List ℕ) → refusal p reads makes ≡ None → ¬ Stands bytes (a_program p) rest) → IsWrong (program_then reads makes) bytes
-wrong_program reads makes bytes none (a_verb v) rest h = refl
-wrong_program reads makes bytes none (a_mark m) rest h = refl
-wrong_program reads makes bytes none (a_number n) rest h = refl
-wrong_program reads makes bytes none (a_path p) rest h = refl
-wrong_program reads makes bytes none (a_text s) rest h = refl
-wrong_program reads makes bytes none (a_program p) rest h = when_not (not (is_some (refusal p reads makes))) end (λ fits. none p rest (no_refusal (refusal p reads makes) fits) h)
+pub wrong_program : (version : Version) (reads makes : ℕ) (bytes : List ℕ)
+    → ((p : Program) (rest : List ℕ) → is_of version p ≡ true → refusal p reads makes ≡ None → ¬ Stands bytes (a_program p) rest) → IsWrong (program_then version reads makes) bytes
+wrong_program version reads makes bytes none (a_verb v) rest h = refl
+wrong_program version reads makes bytes none (a_mark m) rest h = refl
+wrong_program version reads makes bytes none (a_number n) rest h = refl
+wrong_program version reads makes bytes none (a_path p) rest h = refl
+wrong_program version reads makes bytes none (a_text s) rest h = refl
+wrong_program version reads makes bytes none (a_program p) rest h =
+    when_not (is_of version p && not (is_some (refusal p reads makes))) end
+    (λ fits. let both = and_parts (is_of version p) (not (is_some (refusal p reads makes))) fits in none p rest both.0 (no_refusal (refusal p reads makes) both.1) h)
   where
     no_refusal : (o : Option ℕ) → not (is_some o) ≡ true → o ≡ None
     no_refusal None e = refl
@@ -185,21 +189,31 @@ none_and_some : (o : Option ℕ) (n : ℕ) → o ≡ None → Some n ≡ o → �
 none_and_some o n e f = let no : Some n ≡ None = f ∙ e in absurd (cc)
 
 -- where a program stands that breaks the kind rules
-pub refused_kinds : (reads makes : ℕ) (bytes : List ℕ) (p : Program) (n : ℕ) → Follows bytes (a_program p) [] → Some n ≡ refusal p reads makes → Refused (program_then reads makes) bytes bad.Kinds
-refused_kinds reads makes bytes p n f broken =
+pub refused_kinds : (version : Version) (reads makes : ℕ) (bytes : List ℕ) (p : Program) (n : ℕ) → Follows bytes (a_program p) [] → length p.outputs ≤ output_limit version → Some n ≡ refusal p reads makes → Refused (program_then version reads makes) bytes bad.Kinds
+refused_kinds version reads makes bytes p n f few broken =
     wrong f.0 f.1
-    (wrong_program reads makes f.0
-    (λ q rest kept h.
+    (wrong_program version reads makes f.0
+    (λ q rest of kept h.
     let same : a_program q ≡ a_program p = (one_token f.0 (a_program q) (a_program p) rest [] h f.2).0 in
     let program : q ≡ p = cc in
     none_and_some (refusal p reads makes) n (ap (λ (x : Program). refusal x reads makes) (sym program) ∙ kept) broken))
-    (inl ((p, f.2.0), refl))
+    (inl ((p, f.2.0, le-leb (length p.outputs) (output_limit version) few), refl))
+
+-- where a program stands that has more outputs than the version allows
+pub refused_many : (version : Version) (reads makes : ℕ) (bytes front : List ℕ) (p : Program) → bytes ≡ 0x20 ∷ front → IsProgram front p → output_limit version < length p.outputs → Refused (program_then version reads makes) bytes bad.Program
+refused_many version reads makes bytes front p e is many =
+    wrong front e (wrong_program version reads makes front (λ q rest of kept h. too_many q of h.0)) (inr (λ h. too_many h.0 h.2 h.1, refl))
+  where
+    too_many : (q : Program) → is_of version q ≡ true → IsProgram front q → ⊥
+    too_many q of other =
+        let same : length q.outputs ≡ length p.outputs = ap (λ (x : Program). length x.outputs) (one_program_stands front q p other is) in
+        omega (arith, same, many, leb-true (length q.outputs) (output_limit version) of)
 
 -- where a key stands that has stood
-pub refused_repeated : (keys : List (List ℕ)) (bytes k rest : List ℕ) → Follows bytes (a_text k) rest → has_key keys k ≡ true → Refused (key keys) bytes bad.Argument
-refused_repeated keys bytes k rest f has =
+pub refused_repeated : (version : Version) (keys : List (List ℕ)) (bytes k rest : List ℕ) → Follows bytes (a_text k) rest → has_key keys k ≡ true → Refused (key version keys) bytes bad.Argument
+refused_repeated version keys bytes k rest f has =
     wrong f.0 f.1
-    (wrong_key keys f.0
+    (wrong_key version keys f.0
     (λ s more short fresh h.
     let same : a_text s ≡ a_text k = (one_token f.0 (a_text s) (a_text k) more rest h f.2).0 in
     let texts : s ≡ k = cc in

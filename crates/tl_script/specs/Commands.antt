@@ -1,5 +1,5 @@
 -- The commands, and the text of each.
-use Rattle.std.specs.Prelude.{ℕ, ◌+◌, ◌≡◌, ◌≤◌, ◌<◌, IsTrue, List, [], ◌∷◌, ◌++◌, length, Result, Ok, Err}
+use Rattle.std.specs.Prelude.{ℕ, ◌≡◌, ◌≤◌, ◌<◌, IsTrue, List, [], ◌∷◌, ◌++◌, length, Result, Ok, Err}
 use Rattle.std.specs.List.{All, AllByRecursion}
 use Rattle.tl_types.specs.Path.{IsPath}
 use Rattle.tl_lang.specs.Conf.{Pair, is_conf}
@@ -7,6 +7,8 @@ use Rattle.tl_lang.specs.declared.job.JobSpecCore.{JobSpecCore}
 use Rattle.tl_lang.specs.Kinds.{KindsHold}
 use Rattle.tl_kind.specs.Written.{IsWithin}
 use Rattle.tl_model.specs.declared.header.Header.{Header}
+use Rattle.tl_model.specs.declared.header.Version.{Version}
+use Rattle.tl_model.specs.Limits.{input_limit, output_limit}
 use Rattle.tl_model.specs.declared.command.Form.{Form}
 use Rattle.tl_model.specs.declared.command.Form.TheVariants as form
 use Rattle.tl_script.specs.declared.script.Op.{Op}
@@ -17,8 +19,8 @@ use Rattle.tl_script.specs.declared.word.Verb.{Verb}
 use Rattle.tl_script.specs.declared.word.Verb.TheVariants as verb_is
 use Rattle.tl_script.specs.declared.word.Mark.TheVariants as mark_is
 use Rattle.tl_script.specs.Words.{verb_text}
-use Rattle.tl_script.specs.Tokens.{Token, a_verb, a_mark, a_number, a_path, a_text, a_program, spaced}
-use Rattle.tl_script.specs.Places.{command, Refused, prio_limit, fuel_limit, count_limit, text_limit, input_limit, output_limit}
+use Rattle.tl_script.specs.Tokens.{Token, a_mark, a_number, a_path, a_text, a_program, spaced}
+use Rattle.tl_script.specs.Places.{command, Refused, prio_limit, fuel_limit, count_limit, text_limit}
 
 -- ---- how a command is written
 
@@ -87,17 +89,19 @@ pub record IsText (bytes : List ℕ) : Type 0 where
   pub are_bytes : AreBytes bytes
   pub short : length bytes ≤ text_limit
 
--- a job within the limits, whose program keeps the kind rules for its inputs and outputs
-pub record IsJob (core : JobSpecCore) (prio : ℕ) (inputs outputs : List (List (List ℕ))) : Type 0 where
+-- a job within the limits of the version, whose program keeps the kind rules for its inputs and
+-- outputs
+pub record IsJob (version : Version) (core : JobSpecCore) (prio : ℕ)
+    (inputs outputs : List (List (List ℕ))) : Type 0 where
   pub priority : prio ≤ prio_limit
   pub some_fuel : 1 ≤ core.fuel
   pub fuel : core.fuel ≤ fuel_limit
   pub conf : IsTrue (is_conf core.conf)
   pub conf_bytes : AllByRecursion (λ pair. AreBytes pair.0 × AreBytes pair.1) core.conf
-  pub few_inputs : length inputs ≤ input_limit
+  pub few_inputs : length inputs ≤ input_limit version
   pub input_paths : AllByRecursion IsPath inputs
   pub some_output : 1 ≤ length outputs
-  pub few_outputs : length outputs ≤ output_limit
+  pub few_outputs : length outputs ≤ output_limit version
   pub output_paths : AllByRecursion IsPath outputs
   pub program : IsWithin core.program.program
   pub for_inputs : core.program.inputs ≡ length inputs
@@ -107,7 +111,7 @@ pub record IsJob (core : JobSpecCore) (prio : ℕ) (inputs outputs : List (List 
 -- a command that a script of this header may have
 abbrev pub IsOp : Header → Op → Type 0
 IsOp header (Put at bytes) = IsPath at × IsText bytes
-IsOp header (Job core prio inputs outputs) = IsJob core prio inputs outputs
+IsOp header (Job core prio inputs outputs) = IsJob header.version core prio inputs outputs
 IsOp header (Read at prio form) = IsPath at × (prio ≤ prio_limit)
 IsOp header (Delete at) = IsPath at
 IsOp header (Mkdir at) = IsPath at

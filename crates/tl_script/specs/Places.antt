@@ -8,6 +8,8 @@ use Rattle.tl_lang.specs.declared.program.Program.{Program}
 use Rattle.tl_lang.specs.Kinds.{refusal}
 use Rattle.tl_kind.specs.Written.{IsProgram}
 use Rattle.tl_model.specs.declared.header.Header.{Header}
+use Rattle.tl_model.specs.declared.header.Version.{Version}
+use Rattle.tl_model.specs.Limits.{input_limit, output_limit}
 use Rattle.tl_script.specs.declared.bad_kind.BadKind.{BadKind}
 use Rattle.tl_script.specs.declared.bad_kind.BadKind.TheVariants as bad
 use Rattle.tl_script.specs.declared.word.Verb.{Verb}
@@ -39,12 +41,6 @@ text_limit = 1048576
 abbrev pub conf_limit : ℕ
 conf_limit = 16
 
-abbrev pub input_limit : ℕ
-input_limit = 16
-
-abbrev pub output_limit : ℕ
-output_limit = 8
-
 -- ---- places
 
 pub data Place : Type 0 where
@@ -59,21 +55,22 @@ pub data Place : Type 0 where
   -- a quoted text
   text_then : Place → Place
   -- `conf`, or `in`; these keys have stood
-  settings : List (List ℕ) → Place
+  settings : Version → List (List ℕ) → Place
   -- a key that is none of these
-  key : List (List ℕ) → Place
+  key : Version → List (List ℕ) → Place
   -- a path, of which so many stand at most, or, once so many at least have, the word; so many have; and then that place
   paths_then : ℕ → ℕ → ℕ → Mark → (ℕ → Place) → Place
-  -- a program of so many inputs and outputs
-  program_then : ℕ → ℕ → Place
+  -- a program of the version, of so many inputs and outputs
+  program_then : Version → ℕ → ℕ → Place
   -- nothing more
   end : Place
 
-abbrev pub outputs : ℕ → Place
-outputs reads = paths_then output_limit 1 0 mark_is.Run (program_then reads)
+abbrev pub outputs : Version → ℕ → Place
+outputs version reads =
+    paths_then (output_limit version) 1 0 mark_is.Run (program_then version reads)
 
-abbrev pub inputs : Place
-inputs = paths_then input_limit 0 0 mark_is.Out outputs
+abbrev pub inputs : Version → Place
+inputs version = paths_then (input_limit version) 0 0 mark_is.Out (outputs version)
 
 abbrev pub reading : Place
 reading = number_then 0 (prio_limit + 1) (path_then end)
@@ -81,7 +78,8 @@ reading = number_then 0 (prio_limit + 1) (path_then end)
 -- the place after the word of a command
 abbrev pub after_verb : Header → Verb → Place
 after_verb header verb_is.Put = path_then (text_then end)
-after_verb header verb_is.Job = number_then 0 (prio_limit + 1) (number_then 1 (fuel_limit + 1) (settings []))
+after_verb header verb_is.Job =
+    number_then 0 (prio_limit + 1) (number_then 1 (fuel_limit + 1) (settings header.version []))
 after_verb header verb_is.Cat = reading
 after_verb header verb_is.Sum = reading
 after_verb header verb_is.Try = reading
@@ -102,6 +100,10 @@ has_key keys s = list_any (λ k. bytes_eq k s) keys
 abbrev pub when : Bool → Place → Option Place
 when fits place = if fits then Some place else None
 
+-- a program of the version: it has no more outputs than a job may have
+abbrev pub is_of : Version → Program → Bool
+is_of version p = nat_le (length p.outputs) (output_limit version)
+
 -- the place after a token, if the token may stand at this place
 abbrev pub next : Place → Token → Option Place
 next (client header) (a_number n) = when (nat_le n client_limit) (command header)
@@ -109,12 +111,15 @@ next (command header) (a_verb v) = Some (after_verb header v)
 next (path_then place) (a_path p) = Some place
 next (number_then low below place) (a_number n) = when (nat_le low n && nat_lt n below) place
 next (text_then place) (a_text s) = when (nat_le (length s) text_limit) place
-next (settings keys) (a_mark mark_is.Conf) = when (nat_lt (length keys) conf_limit) (key keys)
-next (settings keys) (a_mark mark_is.In) = Some inputs
-next (key keys) (a_text s) = when (nat_le (length s) text_limit && not (has_key keys s)) (text_then (settings (keys ++ s ∷ [])))
+next (settings version keys) (a_mark mark_is.Conf) = when (nat_lt (length keys) conf_limit) (key version keys)
+next (settings version keys) (a_mark mark_is.In) = Some (inputs version)
+next (key version keys) (a_text s) =
+    when (nat_le (length s) text_limit && not (has_key keys s))
+    (text_then (settings version (keys ++ s ∷ [])))
 next (paths_then limit least count word place) (a_path p) = when (nat_lt count limit) (paths_then limit least (suc count) word place)
 next (paths_then limit least count word place) (a_mark m) = when (bytes_eq (mark_text m) (mark_text word) && nat_le least count) (place count)
-next (program_then reads makes) (a_program p) = when (not (is_some (refusal p reads makes))) end
+next (program_then version reads makes) (a_program p) =
+    when (is_of version p && not (is_some (refusal p reads makes))) end
 next place token = None
 
 -- ---- refusals
@@ -127,8 +132,8 @@ begins_with_slash (byte ∷ bytes) = byte == 0x2F
 abbrev pub IsBadPath : List ℕ → Type 0
 IsBadPath bytes = (begins_with_slash bytes ≡ true) × ((p : List (List ℕ)) (rest : List ℕ) → ¬ IsPathText bytes p rest)
 
-abbrev pub IsSomeProgram : List ℕ → Type 0
-IsSomeProgram bytes = (p : Program) × IsProgram bytes p
+abbrev pub IsSomeProgram : Version → List ℕ → Type 0
+IsSomeProgram version bytes = (p : Program) × IsProgram bytes p × (is_of version p ≡ true)
 
 -- how the place refuses what stands there
 abbrev pub RefusedAs : Place → List ℕ → BadKind → Type 0
@@ -136,7 +141,9 @@ RefusedAs (client header) bytes kind = kind ≡ bad.Client
 RefusedAs (command header) bytes kind = kind ≡ bad.Command
 RefusedAs (path_then place) bytes kind = kind ≡ bad.Path
 RefusedAs (paths_then limit least count word place) bytes kind = (IsBadPath bytes × (kind ≡ bad.Path)) ⊎ ((¬ IsBadPath bytes) × (kind ≡ bad.Argument))
-RefusedAs (program_then reads makes) bytes kind = (IsSomeProgram bytes × (kind ≡ bad.Kinds)) ⊎ ((¬ IsSomeProgram bytes) × (kind ≡ bad.Program))
+RefusedAs (program_then version reads makes) bytes kind =
+    (IsSomeProgram version bytes × (kind ≡ bad.Kinds))
+    ⊎ ((¬ IsSomeProgram version bytes) × (kind ≡ bad.Program))
 RefusedAs place bytes kind = kind ≡ bad.Argument
 
 -- no token stands there that may

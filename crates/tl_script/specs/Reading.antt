@@ -8,6 +8,8 @@ use Rattle.tl_lang.specs.Checked.{CheckedProgram}
 use Rattle.tl_lang.specs.Kinds.{KindsHold}
 use Rattle.tl_kind.specs.Written.{IsWithin}
 use Rattle.tl_model.specs.declared.header.Header.{Header}
+use Rattle.tl_model.specs.declared.header.Version.{Version}
+use Rattle.tl_model.specs.Limits.{input_limit, output_limit}
 use Rattle.tl_script.specs.declared.bad_kind.BadKind.{BadKind}
 use Rattle.tl_script.specs.declared.script.Op.{Op}
 use Rattle.tl_script.specs.declared.script.ScriptError.{ScriptError}
@@ -16,8 +18,8 @@ use Rattle.tl_script.specs.declared.stop.Stop.{Stop}
 use Rattle.tl_script.specs.declared.stop.Stop.TheVariants as stop
 use Rattle.tl_script.specs.declared.word.Verb.{Verb}
 use Rattle.tl_script.specs.declared.word.Mark.TheVariants as mark_is
-use Rattle.tl_script.specs.Tokens.{Token, a_mark, a_path, a_text, a_program, spaced}
-use Rattle.tl_script.specs.Places.{Place, Follows, Refused, input_limit, output_limit}
+use Rattle.tl_script.specs.Tokens.{Token, a_mark, a_text, a_program, spaced}
+use Rattle.tl_script.specs.Places.{Place, Follows, Refused}
 use Rattle.tl_script.specs.Commands.{IsOp, verb_of, arguments_of, with_paths, AreBytes}
 
 -- the reader stops for this kind of refusal, or for want of memory
@@ -57,12 +59,13 @@ Precede bytes tokens rest = (more : List Token) → rest ≡ spaced more → byt
 abbrev pub RefusedToo : Place → List ℕ → Place → List ℕ → Type 0
 RefusedToo place bytes after rest = (kind : BadKind) → Refused after rest kind → Refused place bytes kind
 
--- the paths, the program, and how many of each there may be
-pub record AreFiles (inputs outputs : List (List (List ℕ))) (checked : CheckedProgram) : Type 0 where
-  pub few_inputs : length inputs ≤ input_limit
+-- the paths and the program, as many as the version allows
+pub record AreFiles (version : Version) (inputs outputs : List (List (List ℕ)))
+    (checked : CheckedProgram) : Type 0 where
+  pub few_inputs : length inputs ≤ input_limit version
   pub input_paths : AllByRecursion IsPath inputs
   pub some_output : 1 ≤ length outputs
-  pub few_outputs : length outputs ≤ output_limit
+  pub few_outputs : length outputs ≤ output_limit version
   pub output_paths : AllByRecursion IsPath outputs
   pub program : IsWithin checked.program
   pub for_inputs : checked.inputs ≡ length inputs

@@ -1,6 +1,10 @@
 -- The script: a header, and then lines that are skipped or say a client's command.
 use Rattle.std.specs.Prelude.{ℕ, ◌≡◌, ◌+◌, ◌<◌, ◌≤◌, ◌⊎◌, Bool, true, false, ◌==◌, List, [], ◌∷◌, ◌++◌, length, codes, decimal, Result, Ok, Err}
 use Rattle.tl_model.specs.declared.header.Header.{Header}
+use Rattle.tl_model.specs.declared.header.OrderRule.{OrderRule}
+use Rattle.tl_model.specs.declared.header.OrderRule.TheVariants.{Strict, Shares}
+use Rattle.tl_model.specs.declared.header.Version.{Version}
+use Rattle.tl_model.specs.declared.header.Version.TheVariants.{One, Two}
 use Rattle.tl_script.specs.declared.bad_kind.BadKind.{BadKind}
 use Rattle.tl_script.specs.declared.bad_kind.BadKind.TheVariants as bad
 use Rattle.tl_script.specs.declared.script.Op.{Op}
@@ -34,9 +38,22 @@ pub record IsHeader (h : Header) : Type 0 where
   pub some_hot : 1 ≤ h.hot
   pub hot : h.hot ≤ hot_limit
 
+-- the words before the numbers
+abbrev pub version_text : Version → List ℕ
+version_text One = codes "tachyon 1"
+version_text Two = codes "tachyon 2"
+
+-- the words behind the numbers
+abbrev pub order_text : Version → OrderRule → List ℕ
+order_text One Strict = []
+order_text One Shares = codes " shares"
+order_text Two Strict = codes " order strict"
+order_text Two Shares = codes " order shares"
+
 abbrev pub header_text : Header → List ℕ
 header_text h =
-    codes "tachyon 1 workers " ++ (decimal h.workers ++ (codes " capacity " ++ (decimal h.capacity ++ (codes " hot " ++ decimal h.hot))))
+    version_text h.version ++ (codes " workers " ++ (decimal h.workers ++ (codes " capacity " ++ (decimal h.capacity
+    ++ (codes " hot " ++ (decimal h.hot ++ order_text h.version h.order))))))
 
 -- the line says the header
 pub record HeaderSays (line : List ℕ) (h : Header) : Type 0 where

@@ -1,5 +1,5 @@
 -- The tokens of a line.
-use Rattle.std.specs.Prelude.{ℕ, ◌≡◌, ◌<◌, List, [], ◌∷◌, ◌++◌, decimal}
+use Rattle.std.specs.Prelude.{ℕ, ◌≡◌, List, [], ◌∷◌, ◌++◌, decimal}
 use Rattle.tl_types.specs.Path.{spelled}
 use Rattle.tl_text.specs.Number.{IsNumber}
 use Rattle.tl_text.specs.Quoted.{quoted, IsQuoted}

@@ -17,7 +17,7 @@ pub enum BadKind {
     Argument,
     /// A path must stand there, and the token is none.
     Path,
-    /// A program must stand there, and the rest of the line is none.
+    /// A program of the version must stand there, and the rest of the line is none.
     Program,
     /// The program breaks the kind rules for the job's inputs and outputs.
     Kinds,

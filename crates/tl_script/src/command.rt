@@ -176,7 +176,7 @@ fn arguments(alloc: Global, verb: Verb, text: &[u8], header: &Header) -> Result<
 {
     match verb {
         Verb::Put => put(alloc, text),
-        Verb::Job => job(alloc, text),
+        Verb::Job => job(alloc, text, header),
         Verb::Cat => read(alloc, text, Form::Cat),
         Verb::Sum => read(alloc, text, Form::Sum),
         Verb::Try => read(alloc, text, Form::Try),

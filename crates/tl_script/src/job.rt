@@ -6,7 +6,8 @@ ghost use Rattle.tl_types.specs.Path.{IsPath};
 ghost use Rattle.tl_text.specs.PathText.{EndsToken};
 ghost use Rattle.tl_lang.specs.Conf.{pairs_of, is_conf};
 ghost use Rattle.tl_lang.specs.Kinds.{KindsHold};
-ghost use Rattle.tl_model.specs.declared.header.Header.{Header};
+ghost use Rattle.tl_model.specs.declared.header.Version.{Version};
+ghost use Rattle.tl_model.specs.Limits.{output_limit};
 ghost use Rattle.tl_script.specs.declared.bad_kind.BadKind.TheVariants as bad_kind;
 ghost use Rattle.tl_script.specs.declared.stop.Stop.TheVariants as stop;
 ghost use Rattle.tl_script.specs.declared.word.Verb.TheVariants as verb_is;
@@ -24,16 +25,11 @@ use crate::word::Mark;
 use std::alloc::Global;
 use tl_kind::{LangError, check, parse};
 use tl_lang::{Checked, Conf, JobSpecCore, PAIRS_LIMIT, Program};
+use tl_model::{Header, Version};
 use tl_types::{Bytes, Items, NoMemory, Path, Prio, Shared};
 
 /// The greatest fuel of a job.
 const FUEL_LIMIT: u64 = 16_777_216;
-
-/// The greatest number of inputs of a job.
-const INPUT_LIMIT: usize = 16;
-
-/// The greatest number of outputs of a job.
-const OUTPUT_LIMIT: usize = 8;
 
 // A key and a value.
 type Pair = (Vec<u8>, Vec<u8>);
@@ -57,7 +53,8 @@ fn next_key<'a>(alloc: Global, text: &'a [u8], pairs: &[Pair]) -> Result<(Bytes,
     ensures short { IfOk result (λ r. length r.0 ≤ text_limit) }
     ensures fresh { IfOk result (λ r. has_key (keys_of pairs.now) r.0 ≡ false) }
     ensures ended { IfOk result (λ r. EndsToken r.1.now) }
-    ensures bad { IfErr result (StopsAs (Refused (key (keys_of pairs.now)) text.now)) }
+    ensures bad { IfErr result (λ stop. (version : Version)
+        → StopsAs (Refused (key version (keys_of pairs.now)) text.now) stop) }
 {
     let Some(front) = front_of(text) else {
         return Err(Stop::Refused(BadKind::Argument));
@@ -80,7 +77,8 @@ fn next_pair<'a>(alloc: Global, text: &'a [u8], pairs: &[Pair]) -> Result<(Pair,
     ensures short { IfOk result (λ r. (length r.0.0.items ≤ text_limit) × (length r.0.1.items ≤ text_limit)) }
     ensures fresh { IfOk result (λ r. has_key (keys_of pairs.now) r.0.0.items ≡ false) }
     ensures ended { IfOk result (λ r. EndsToken r.1.now) }
-    ensures bad { IfErr result (StopsAs (Refused (settings (keys_of pairs.now)) text.now)) }
+    ensures bad { IfErr result (λ stop. (version : Version)
+        → StopsAs (Refused (settings version (keys_of pairs.now)) text.now) stop) }
 {
     let Some(rest) = after_mark(text, Mark::Conf) else {
         return Err(Stop::Refused(BadKind::Argument));
@@ -99,8 +97,10 @@ fn conf(alloc: Global, text: &[u8]) -> Result<(Vec<Pair>, &[u8]), Stop>
     ensures found { IfOk result (λ r. Precede text.now (λ more. with_conf (pairs_of r.0.items) (a_mark mark_is.In ∷ more)) r.1.now) }
     ensures conf { IfOk result (λ r. AreConf (pairs_of r.0.items)) }
     ensures ended { IfOk result (λ r. EndsToken r.1.now) }
-    ensures later { IfOk result (λ r. RefusedToo (settings []) text.now inputs r.1.now) }
-    ensures bad { IfErr result (StopsAs (Refused (settings []) text.now)) }
+    ensures later { IfOk result (λ r. (version : Version)
+        → RefusedToo (settings version []) text.now (inputs version) r.1.now) }
+    ensures bad { IfErr result (λ stop. (version : Version)
+        → StopsAs (Refused (settings version []) text.now) stop) }
 {
     let mut pairs = Vec::new(alloc);
     let mut rest = text;
@@ -181,32 +181,44 @@ fn paths(
     }
 }
 
-// Reads a program, which is the rest of the line.
-fn program(alloc: Global, text: &[u8]) -> Result<Program, Stop>
+// Reads a program of the version, which is the rest of the line.
+fn program(alloc: Global, text: &[u8], version: Version) -> Result<Program, Stop>
     requires { EndsToken text.now }
     ensures found { IfOk result (λ p. Follows text.now (a_program p) []) }
-    ensures bad { IfErr result (λ stop. (inputs outputs : ℕ) → StopsAs (Refused (program_then inputs outputs) text.now) stop) }
+    ensures few { IfOk result (λ p. length p.outputs ≤ output_limit version) }
+    ensures bad { IfErr result (λ stop. (inputs outputs : ℕ)
+        → StopsAs (Refused (program_then version inputs outputs) text.now) stop) }
 {
     let Some(front) = front_of(text) else {
         return Err(Stop::Refused(BadKind::Argument));
     };
-    match parse(alloc, front) {
-        Ok(program) => Ok(program),
-        Err(LangError::Bad { .. }) => Err(Stop::Refused(BadKind::Program)),
-        Err(LangError::NoMemory) => Err(Stop::NoMemory),
+    let program = match parse(alloc, front) {
+        Ok(program) => program,
+        Err(LangError::Bad { .. }) => return Err(Stop::Refused(BadKind::Program)),
+        Err(LangError::NoMemory) => return Err(Stop::NoMemory),
+    };
+    if program.outputs.len() > version.output_limit() {
+        return Err(Stop::Refused(BadKind::Program));
     }
+    Ok(program)
 }
 
-// Reads a program that keeps the kind rules.
-fn checked(alloc: Global, text: &[u8], inputs: u8, outputs: u8) -> Result<Checked, Stop>
+// Reads a program of the version that keeps the kind rules.
+fn checked(
+    alloc: Global,
+    text: &[u8],
+    version: Version,
+    inputs: u8,
+    outputs: u8,
+) -> Result<Checked, Stop>
     requires { EndsToken text.now }
     ensures found { IfOk result (λ c. Follows text.now (a_program c.program) []) }
     ensures for_inputs { IfOk result (λ c. c.inputs ≡ inputs) }
     ensures for_outputs { IfOk result (λ c. c.outputs ≡ outputs) }
     ensures kinds { IfOk result (λ c. KindsHold c.program c.inputs c.outputs) }
-    ensures bad { IfErr result (StopsAs (Refused (program_then inputs outputs) text.now)) }
+    ensures bad { IfErr result (StopsAs (Refused (program_then version inputs outputs) text.now)) }
 {
-    let program = program(alloc, text)?;
+    let program = program(alloc, text, version)?;
     match check(program, inputs, outputs) {
         Ok(checked) => Ok(checked),
         Err(_) => Err(Stop::Refused(BadKind::Kinds)),
@@ -222,15 +234,21 @@ struct Files {
 }
 
 // Reads the inputs, the outputs and the program.
-fn job_files(alloc: Global, text: &[u8]) -> Result<Files, Stop>
+fn job_files(alloc: Global, text: &[u8], version: Version) -> Result<Files, Stop>
     requires { EndsToken text.now }
     ensures found { IfOk result (λ f. text.now ≡ spaced (file_tokens f.inputs.items f.outputs.items f.program)) }
-    ensures files { IfOk result (λ f. AreFiles f.inputs.items f.outputs.items f.program) }
-    ensures bad { IfErr result (StopsAs (Refused inputs text.now)) }
+    ensures files { IfOk result (λ f. AreFiles version f.inputs.items f.outputs.items f.program) }
+    ensures bad { IfErr result (StopsAs (Refused (inputs version) text.now)) }
 {
-    let (inputs, rest) = paths(alloc, text, INPUT_LIMIT, 0, Mark::Out)?;
-    let (outputs, rest) = paths(alloc, rest, OUTPUT_LIMIT, 1, Mark::Run)?;
-    let program = checked(alloc, rest, inputs.len() as u8, outputs.len() as u8)?;
+    let (inputs, rest) = paths(alloc, text, version.input_limit(), 0, Mark::Out)?;
+    let (outputs, rest) = paths(alloc, rest, version.output_limit(), 1, Mark::Run)?;
+    let program = checked(
+        alloc,
+        rest,
+        version,
+        inputs.len() as u8,
+        outputs.len() as u8,
+    )?;
     Ok(Files {
         inputs,
         outputs,
@@ -261,15 +279,15 @@ fn core_of(
 }
 
 /// A job: its priority, its fuel, its configuration, its inputs and outputs, and its program.
-pub(crate) fn job(alloc: Global, text: &[u8]) -> Result<Op, Stop>
+pub(crate) fn job(alloc: Global, text: &[u8], header: &Header) -> Result<Op, Stop>
     requires { EndsToken text.now }
-    ensures found { IfOk result (λ op. (header : Header) → AreArguments header verb_is.Job text.now op) }
-    ensures bad { IfErr result (λ stop. (header : Header) → StopsAs (Refused (after_verb header verb_is.Job) text.now) stop) }
+    ensures found { IfOk result (AreArguments header.now verb_is.Job text.now) }
+    ensures bad { IfErr result (StopsAs (Refused (after_verb header.now verb_is.Job) text.now)) }
 {
     let (prio, rest) = next_number(text, 0, PRIO_COUNT)?;
     let (fuel, rest) = next_number(rest, 1, FUEL_LIMIT + 1)?;
     let (pairs, rest) = conf(alloc, rest)?;
-    let files = job_files(alloc, rest)?;
+    let files = job_files(alloc, rest, header.version)?;
     Ok(Op::Job {
         core: core_of(alloc, files.program, pairs, fuel as u32)?,
         prio: Prio::new(prio as u8).unwrap(),

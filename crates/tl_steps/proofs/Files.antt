@@ -13,7 +13,8 @@ use Rattle.tl_model.specs.declared.record.Record.{Record}
 use Rattle.tl_model.specs.Past.{Past}
 use Rattle.tl_model.specs.History.{files_from, has_output, id_of, is_output, output_count, record_at, records}
 use Rattle.tl_model.specs.Residency.{SavedAs, place_after, saved_after}
-use Rattle.tl_laws.specs.Numbers.{Numbered, get-last}
+use Rattle.tl_laws.specs.Numbers.{Numbered}
+use Rattle.tl_laws.proofs.Numbering.{get-last}
 use Rattle.tl_laws.specs.Made.{IsOutputOf}
 use Rattle.tl_steps.specs.Steps.{place_after_done, place_now, saves_now}
 

@@ -3,3 +3,4 @@ pub mod Lists
 pub mod Named
 pub mod Seats
 pub mod Within
+pub mod Saving

@@ -27,12 +27,15 @@ use Rattle.tl_model.specs.Plan.{next}
 use Rattle.tl_model.specs.Eviction.{first_of}
 use Rattle.tl_model.specs.Checkpoints.{can_be_saved, is_leaf, is_hot, done_sooner, read_more, leaves, hot_files, edge, next_save}
 use Rattle.tl_model.specs.Rules.{Judge, all_permitted, broken, is_file, is_record, is_known_worker, is_open_on, is_permitted, may_claim, follows_put, is_put_of, made_by_put}
-use Rattle.tl_laws.specs.Permits.{permitted_of}
-use Rattle.tl_laws.specs.Numbers.{Numbered, all-numbered, get-last, get-within}
-use Rattle.tl_laws.specs.Tickets.{records-with}
-use Rattle.tl_laws.specs.Made.{IsMade, IsMadeOf, IsOutputOf, output-stays, past-made, HasMadeInputs}
-use Rattle.tl_laws.specs.Order.{EachNode, all-get, among-holds}
-use Rattle.tl_laws.specs.Next.{next-is}
+use Rattle.tl_laws.proofs.Permits.{permitted_of}
+use Rattle.tl_laws.specs.Numbers.{Numbered}
+use Rattle.tl_laws.proofs.Numbering.{all-numbered, get-last, get-within}
+use Rattle.tl_laws.proofs.Tickets.{records-with}
+use Rattle.tl_laws.specs.Made.{IsMade, IsMadeOf, IsOutputOf, HasMadeInputs}
+use Rattle.tl_laws.proofs.Made.{output-stays, past-made}
+use Rattle.tl_laws.specs.Order.{EachNode}
+use Rattle.tl_laws.proofs.Order.{all-get, among-holds}
+use Rattle.tl_laws.proofs.Next.{next-is}
 use Rattle.tl_steps.specs.Within.{IsWithin}
 
 -- ---- what is saved next is named, and so was made
@@ -78,11 +81,11 @@ append-all : (P : FileId → Type 0) (xs ys : List FileId) → AllByRecursion P 
 append-all P [] ys left right = right
 append-all P (x ∷ xs) ys left right = (left.0, append-all P xs ys left.1 right)
 
-first-has : (P : FileId → Type 0) (xs : List FileId) (f : FileId) → AllByRecursion P xs → first_of xs ≡ Some f → P f
+pub first-has : (P : FileId → Type 0) (xs : List FileId) (f : FileId) → AllByRecursion P xs → first_of xs ≡ Some f → P f
 first-has P [] f all is = absurd (cc)
 first-has P (x ∷ xs) f all is = let same : x ≡ f = cc in subst P same all.0
 
-edge-all : (header : Header) (past : Past) → AllByRecursion (can-save past) (edge header past)
+pub edge-all : (header : Header) (past : Past) → AllByRecursion (can-save past) (edge header past)
 edge-all header past =
     append-all (can-save past) (leaves past) (hot_files header past)
     (sort-all (can-save past) (done_sooner past) (filter (λ f. can_be_saved past f && is_leaf past f) (files past))
@@ -91,7 +94,7 @@ edge-all header past =
     (kept-passes past (λ f. can_be_saved past f && not (is_leaf past f) && is_hot header past f) (files past)
     (λ f e. (and_parts (can_be_saved past f) (not (is_leaf past f)) (and_parts (can_be_saved past f && not (is_leaf past f)) (is_hot header past f) e).0).0)))
 
-is-that : (o : Option FileId) (f : FileId) → is_file o f ≡ true → o ≡ Some f
+pub is-that : (o : Option FileId) (f : FileId) → is_file o f ≡ true → o ≡ Some f
 is-that None f is = absurd (cc)
 is-that (Some g) f is = ap Some ((file_same-Decides g f).0 is)
 
@@ -166,17 +169,17 @@ or-cases : (a b : Bool) (P : Type 0) → (a || b) ≡ true → (a ≡ true → P
 or-cases true b P is left right = left refl
 or-cases false b P is left right = right is
 
-saves-that : (f : FileId) (o : Option FileId) → saves_file f o ≡ true → o ≡ Some f
+pub saves-that : (f : FileId) (o : Option FileId) → saves_file f o ≡ true → o ≡ Some f
 saves-that f None is = absurd (cc)
 saves-that f (Some g) is = ap Some (sym ((file_same-Decides f g).0 is))
 
 -- ---- one event
 
-same-either : {A : Type 0} (b : Bool) (x : Option A) (y : A) → (if b then x else x) ≡ Some y → x ≡ Some y
+pub same-either : {A : Type 0} (b : Bool) (x : Option A) (y : A) → (if b then x else x) ≡ Some y → x ≡ Some y
 same-either true x y is = is
 same-either false x y is = is
 
-none-or : {A : Type 0} (b : Bool) (x : Option A) (y : A) → (if b then None else x) ≡ Some y → x ≡ Some y
+pub none-or : {A : Type 0} (b : Bool) (x : Option A) (y : A) → (if b then None else x) ≡ Some y → x ≡ Some y
 none-or true x y is = absurd (cc)
 none-or false x y is = is
 
@@ -298,7 +301,8 @@ act-within judge header events past actor (Shut g) known was made numbered ok = 
   claims = claims-stay past actor known;
 }
 act-within judge header events past actor (Claim worker m) known was made numbered ok =
-    let following = next-is past m (is-next (next past) m (and_parts (is_known_worker header worker && may_claim past actor) (is_record (next past) m) ok).1) known.numbered in
+    let following = next-is header.order past m
+    (is-next (next header.order past) m (and_parts (is_known_worker header worker && may_claim past actor) (is_record (next header.order past) m) ok).1) known.numbered in
     record {
       numbered = numbered;
       inputs = made.inputs;

@@ -11,7 +11,7 @@ use std::test::Fail;
 use tl_core::{Cluster, Finish, Look, Work};
 use tl_io::FalseTicket;
 use tl_lang::{Checked, Conf, Expr, Items as Parts, JobSpecCore, Program};
-use tl_model::{Command, Form, Header, Reply, Saved};
+use tl_model::{Command, Form, Header, OrderRule, Reply, Saved, Version};
 use tl_types::{
     Actor, Block, Bytes, Digest, FileId, Items, Outcome, Path, Prio, RecordId, Shared, WorkerId,
     sha256_digest,
@@ -22,6 +22,8 @@ const HEADER: Header = Header {
     workers: 1,
     capacity: 100,
     hot: 9,
+    order: OrderRule::Strict,
+    version: Version::One,
 };
 
 // The path of one component that all calls name.

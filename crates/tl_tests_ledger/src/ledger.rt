@@ -4,13 +4,15 @@ ghost use Rattle.tl_names.specs.Answers.{HasFewOutputs};
 use std::test::Fail;
 use tl_io::FalseTicket;
 use tl_ledger::Ledger;
-use tl_model::{Act, Command, Event, Header, Reply};
+use tl_model::{Act, Command, Event, Header, OrderRule, Reply, Version};
 use tl_types::{Actor, Digest, Path, RecordId, WorkerId};
 
 const HEADER: Header = Header {
     workers: 1,
     capacity: 100,
     hot: 9,
+    order: OrderRule::Strict,
+    version: Version::One,
 };
 
 // The path of one component.

@@ -1,11 +1,13 @@
 use std::test::Fail;
-use tl_model::Header;
+use tl_model::{Header, OrderRule, Version};
 use tl_script::{ScriptError, parse, parse_op};
 
 const HEADER: Header = Header {
     workers: 1,
     capacity: 100,
     hot: 3,
+    order: OrderRule::Strict,
+    version: Version::One,
 };
 
 // The number of the refused line and of its kind; `None` where the text is read.
@@ -178,6 +180,131 @@ fn commands_are_refused_alone(rt: HostRuntime) -> Result<(), Fail> {
     Ok(())
 }
 
+// The kinds as which a line is refused in the two versions, 0 where it is read, and the line.
+const BY_VERSION: &[u8] =
+    br#"4 0 0 job 3 10 in out /o0 /o1 /o2 /o3 /o4 /o5 /o6 /o7 /o8 run (job "a" "a" "a" "a" "a" "a" "a" "a" "a")
+6 7 0 job 3 10 in out /o0 /o1 /o2 /o3 /o4 /o5 /o6 /o7 run (job "a" "a" "a" "a" "a" "a" "a" "a" "a")
+7 7 0 job 3 10 in out /o0 /o1 /o2 /o3 /o4 /o5 /o6 run (job "a" "a" "a" "a" "a" "a" "a" "a")
+6 6 0 job 3 10 in out /x run (job
+4 0 0 job 3 10 in /0 /1 /2 /3 /4 /5 /6 /7 /8 /9 /a /b /c /d /e /f /g out /x run (job (in 16))
+0 0 0 job 3 10 in /0 /1 /2 /3 /4 /5 /6 /7 /8 /9 /a /b /c /d /e /f out /x run (job (in 15))"#;
+
+// How a command alone is refused under the header's version; 0 where it is read.
+fn kind_alone(rt: &HostRuntime, command: &[u8], version: Version) -> u8 {
+    let header = Header { version, ..HEADER };
+    match refused(&parse_op(rt.alloc(), command, &header)) {
+        None => 0,
+        Some((_, kind)) => kind,
+    }
+}
+
+#[test]
+fn limits_go_by_the_version(rt: HostRuntime) -> Result<(), Fail> {
+    for row in BY_VERSION.split(|byte| *byte == b'\n') {
+        let [one, b' ', two, b' ', b'0', b' ', command @ ..] = row else {
+            continue;
+        };
+        assert_eq!(rt;
+            kind_alone(&rt, command, Version::One),
+            one.saturating_sub(b'0')
+        );
+        assert_eq!(rt;
+            kind_alone(&rt, command, Version::Two),
+            two.saturating_sub(b'0')
+        );
+    }
+    Ok(())
+}
+
+// A job of so many inputs and outputs.
+fn job_of(rt: &HostRuntime, inputs: usize, outputs: usize) -> Result<Vec<u8>, Fail> {
+    let mut text = b"job 3 10 in".to_vec(rt.alloc())?;
+    for _ in 0..inputs {
+        text.extend_from_slice(b" /i")?;
+    }
+    text.extend_from_slice(b" out")?;
+    for _ in 0..outputs {
+        text.extend_from_slice(b" /o")?;
+    }
+    text.extend_from_slice(b" run (job")?;
+    for _ in 0..outputs {
+        text.extend_from_slice(b" \"a\"")?;
+    }
+    text.extend_from_slice(b")")?;
+    Ok(text)
+}
+
+#[test]
+fn as_many_files_as_version_two_allows(rt: HostRuntime) -> Result<(), Fail> {
+    let most = job_of(&rt, 64, 64)?;
+    assert_eq!(rt; kind_alone(&rt, most.as_slice(), Version::Two), 0);
+    let inputs = job_of(&rt, 65, 1)?;
+    assert_eq!(rt; kind_alone(&rt, inputs.as_slice(), Version::Two), 4);
+    let outputs = job_of(&rt, 0, 65)?;
+    assert_eq!(rt; kind_alone(&rt, outputs.as_slice(), Version::Two), 4);
+    Ok(())
+}
+
+// A job of nine outputs, under a header of each version.
+#[test]
+fn nine_outputs_are_read_in_version_two(rt: HostRuntime) -> Result<(), Fail> {
+    for (text, error) in [
+        (
+            br#"tachyon 1 workers 1 capacity 100 hot 9
+0 job 3 10 in out /o0 /o1 /o2 /o3 /o4 /o5 /o6 /o7 /o8 run (job "a" "a" "a" "a" "a" "a" "a" "a" "a")
+"#
+                .as_slice(),
+            Some((2, 4)),
+        ),
+        (
+            br#"tachyon 2 workers 1 capacity 100 hot 9 order strict
+0 job 3 10 in out /o0 /o1 /o2 /o3 /o4 /o5 /o6 /o7 /o8 run (job "a" "a" "a" "a" "a" "a" "a" "a" "a")
+"#,
+            None,
+        ),
+    ] {
+        assert_eq!(rt; refused(&parse(rt.alloc(), text)), error);
+    }
+    Ok(())
+}
+
+#[test]
+fn headers_are_read(rt: HostRuntime) -> Result<(), Fail> {
+    for (text, order, version) in [
+        (
+            b"tachyon 1 workers 1 capacity 100 hot 3".as_slice(),
+            OrderRule::Strict,
+            Version::One,
+        ),
+        (
+            b"tachyon 1 workers 1 capacity 100 hot 3 shares",
+            OrderRule::Shares,
+            Version::One,
+        ),
+        (
+            b"tachyon 2 workers 1 capacity 100 hot 3 order strict",
+            OrderRule::Strict,
+            Version::Two,
+        ),
+        (
+            b"tachyon 2 workers 1 capacity 100 hot 3 order shares\n",
+            OrderRule::Shares,
+            Version::Two,
+        ),
+    ] {
+        let script = parse(rt.alloc(), text)?;
+        assert!(rt;
+            script.header
+                == Header {
+                    order,
+                    version,
+                    ..HEADER
+                }
+        );
+    }
+    Ok(())
+}
+
 #[test]
 fn headers_are_refused(rt: HostRuntime) -> Result<(), Fail> {
     for text in [
@@ -190,6 +317,18 @@ fn headers_are_refused(rt: HostRuntime) -> Result<(), Fail> {
         b"tachyon 1 workers 1 capacity 268435457 hot 3\n",
         b"tachyon 1 workers 1 capacity 100 hot 4294967296\n",
         b"tachyon 1 workers 1 capacity 100 hot 3 \n",
+        b"tachyon 1 workers 1 capacity 100 hot 3 strict\n",
+        b"tachyon 1 workers 1 capacity 100 hot 3 order strict\n",
+        b"tachyon 1 workers 1 capacity 100 hot 3 order shares\n",
+        b"tachyon 1 workers 1 capacity 100 hot 3 shares \n",
+        b"tachyon 1 workers 1 capacity 100 hot 3  shares\n",
+        b"tachyon 2 workers 1 capacity 100 hot 3\n",
+        b"tachyon 2 workers 1 capacity 100 hot 3 shares\n",
+        b"tachyon 2 workers 1 capacity 100 hot 3 order\n",
+        b"tachyon 2 workers 1 capacity 100 hot 3 order strict \n",
+        b"tachyon 2 workers 1 capacity 100 hot 3 order sharess\n",
+        b"tachyon 2 workers 9 capacity 100 hot 3 order strict\n",
+        b"tachyon 3 workers 1 capacity 100 hot 3 order strict\n",
     ] {
         assert_eq!(rt; refused(&parse(rt.alloc(), text)), Some((1, 1)));
     }

@@ -1,7 +1,7 @@
 use crate::jobs::{WORKER, by, file, job, submission};
 use std::test::Fail;
 use tl_edge::Edge;
-use tl_model::{Act, Command, Header, Reply};
+use tl_model::{Act, Command, Header, OrderRule, Reply, Version};
 use tl_types::{Digest, FileId, Path, RecordId};
 
 // A job with these inputs is accepted.
@@ -39,6 +39,8 @@ fn chain(rt: &HostRuntime) -> Result<Edge, Fail> {
         workers: 1,
         capacity: 100,
         hot: 1,
+        order: OrderRule::Strict,
+        version: Version::One,
     };
     let mut edge = Edge::new(rt.alloc(), header);
     accept(rt, &mut edge, 0, &[])?;

@@ -1,7 +1,7 @@
 use crate::jobs::{WORKER, by, file, job, submission};
 use std::test::Fail;
 use tl_gc::Gc;
-use tl_model::{Act, Command, Header, Reply};
+use tl_model::{Act, Command, Header, OrderRule, Reply, Version};
 use tl_plan::Plan;
 use tl_types::{Digest, FileId, Path, RecordId};
 
@@ -9,6 +9,8 @@ const HEADER: Header = Header {
     workers: 1,
     capacity: 100,
     hot: 9,
+    order: OrderRule::Strict,
+    version: Version::One,
 };
 
 // A plan, and what may be let go, kept in step with the same events.

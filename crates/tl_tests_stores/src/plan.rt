@@ -1,6 +1,6 @@
 use crate::jobs::{WORKER, by, file, job, submission};
 use std::test::Fail;
-use tl_model::{Act, Command, Facts, Form, Header, Reply};
+use tl_model::{Act, Command, Facts, Form, Header, OrderRule, Reply, Version};
 use tl_plan::Plan;
 use tl_types::{FileId, Path, Prio, RecordId};
 
@@ -59,6 +59,8 @@ fn chain(rt: &HostRuntime) -> Result<Plan, Fail> {
         workers: 1,
         capacity: 100,
         hot: 9,
+        order: OrderRule::Strict,
+        version: Version::One,
     };
     let mut plan = Plan::new(rt.alloc(), header);
     accept(rt, &mut plan, 0, &[])?;

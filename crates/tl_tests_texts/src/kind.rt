@@ -131,12 +131,12 @@ fn texts_are_refused(rt: HostRuntime) -> Result<(), Fail> {
 
 #[test]
 fn counts_are_limited(rt: HostRuntime) -> Result<(), Fail> {
-    let nine = repeated_refused(&rt, b"(job", b" 1", 9, b")")?;
-    assert_eq!(rt; nine, Some((20, 9)));
-    let spare = repeated_refused(&rt, b"(job", b" 1", 8, b" ")?;
-    assert_eq!(rt; spare, Some((20, 9)));
-    let eight = repeated_refused(&rt, b"(job", b" 1", 8, b")")?;
-    assert_eq!(rt; eight, None);
+    let over = repeated_refused(&rt, b"(job", b" 1", 65, b")")?;
+    assert_eq!(rt; over, Some((132, 9)));
+    let spare = repeated_refused(&rt, b"(job", b" 1", 64, b" ")?;
+    assert_eq!(rt; spare, Some((132, 9)));
+    let whole = repeated_refused(&rt, b"(job", b" 1", 64, b")")?;
+    assert_eq!(rt; whole, None);
     let long_list = repeated_refused(&rt, b"(job (list", b" 1", 17, b"))")?;
     assert_eq!(rt; long_list, Some((42, 2)));
     let list = repeated_refused(&rt, b"(job (list", b" 1", 16, b"))")?;

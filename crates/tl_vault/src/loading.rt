@@ -44,8 +44,8 @@ impl From<Damage> for LoadError {
     }
 }
 
-/// What was kept, back from the depot. A fault is answered without the depot. Of kept bytes it asks
-/// for one byte more than their length, so that longer ones are seen. `Fault` comes only where the
+/// What was kept, back from the depot. A fault is answered without the depot. Kept bytes are asked for
+/// by one load and no save, one byte more than their length, so that longer ones are seen. `Fault` comes only where the
 /// depot's count of faults rose in this call; `Damaged` exactly where the depot answered bytes of
 /// another length or digest.
 pub fn load<D: Depot>(
@@ -56,6 +56,7 @@ pub fn load<D: Depot>(
     requires { kept_len saved.now ≤ 1048576 }
     ensures failed { IfFailed saved.now (λ code. result ≡ Ok (Outcome.Fault code)) }
     ensures unasked { IfFailed saved.now (λ code. depot.new ≡ depot.old) }
+    ensures asked { IfHeld saved.now (λ ticket len digest. D.loads depot.old depot.new) }
     ensures value { IfHeld saved.now (λ ticket len digest. IfOk result (λ outcome.
         IsValueAnd outcome (Fits len digest))) }
     ensures told { IfHeld saved.now (λ ticket len digest. IfOk result (λ outcome.

@@ -1,7 +1,9 @@
-ghost use Rattle.std.specs.Prelude.{◌≡◌, ◌+◌, ◌-◌, ◌<◌, ◌≤◌, ◌∷◌, ◌++◌, [], None, OnOk, OnErr};
+ghost use Rattle.std.specs.Prelude.{◌≡◌, [], Some, None, false, true, OnOk, OnErr, if◌then◌else◌};
 ghost use Rattle.std.specs.Option.{option_copied};
-ghost use Rattle.indexmap.specs.IndexMap.{spare as places_of};
-ghost use Rattle.tl_vault.specs.Vault.{saved_of};
+ghost use Rattle.tl_types.specs.Same.{file_same};
+ghost use Rattle.tl_types.specs.declared.file_id.FileId.{FileId as File};
+ghost use Rattle.indexmap.specs.IndexMap.{insert_entry};
+ghost use Rattle.tl_vault.specs.Vault.{has_place, saved_of};
 
 use indexmap::IndexMap;
 use std::alloc::Global;
@@ -9,91 +11,122 @@ use std::marker::Model;
 use tl_model::Saved;
 use tl_types::{FileId, NoMemory};
 
-/// What is kept of each file in the checkpoint store. Contracts see the entries, in the order in which
-/// they were put in, and how many more may be put in without asking for memory.
+/// What is kept of each file in the checkpoint store. Contracts see a place for each file that asked
+/// for one, and what is kept there, if anything is.
 #[derive(Debug, Drop)]
 pub struct Vault<T> {
-    table: IndexMap<FileId, Saved<T>>,
-    spare: usize,
+    places: IndexMap<FileId, Option<Saved<T>>>,
 }
 
 impl<T> Model for Vault<T> {
-    ghost use Rattle.std.specs.Prelude.{◌≤◌};
     ghost use Rattle.std.specs.Coded.{codes};
-    ghost use Rattle.indexmap.specs.IndexMap.{spare as places_of};
-    ghost use Rattle.tl_vault.specs.Vault.{Keepings};
+    ghost use Rattle.tl_vault.specs.Vault.{Places};
 
-    ghost Value = { Keepings T };
+    ghost Value = { Places T };
 
     ghost coded = { Prim.hlevel (codes, T.code) };
 
-    ghost view = { λ v. record { entries = v.table.entries; spare = v.spare } };
-
-    ghost invariant = { λ v. v.spare ≤ places_of v.table };
+    ghost view = { λ v. v.places.entries };
 }
 
 impl<T> Vault<T> {
-    /// A vault that keeps nothing.
+    /// A vault that keeps nothing and has no place.
     pub fn new(alloc: Global) -> Vault<T>
-        ensures entries { result.entries ≡ [] }
-        ensures spare { result.spare ≡ 0 }
+        ensures { result ≡ [] }
     {
         Vault {
-            table: IndexMap::new(alloc),
-            spare: 0,
+            places: IndexMap::new(alloc),
         }
-    }
-
-    /// Makes a place for a file, beside the places made before and not yet filled. `Err` changes
-    /// nothing.
-    pub fn room(&mut self, _f: FileId) -> Result<(), NoMemory>
-        ensures room { OnOk result (self.new.spare ≡ self.old.spare + 1) }
-        ensures entries { self.new.entries ≡ self.old.entries }
-        ensures err { OnErr result (self.new ≡ self.old) }
-    {
-        let spare = self.spare.checked_add(1).ok_or(NoMemory)?;
-        self.table.reserve(spare)?;
-        self.spare = spare;
-        Ok(())
     }
 
     /// What is kept of a file; `None` exactly where nothing is.
     pub fn get(&self, f: FileId) -> Option<&Saved<T>>
-        ensures { option_copied result ≡ saved_of f self.now.entries }
+        ensures { option_copied result ≡ saved_of f self.now }
     {
-        find_saved(&self.table, f)
+        find_saved(&self.places, f)
     }
 }
 
 impl<T: Drop> Vault<T> {
-    /// Keeps this of a file, of which nothing is kept and for which there is a place. It takes no
-    /// memory.
-    pub fn insert(&mut self, f: FileId, saved: Saved<T>)
-        requires room { 0 < self.old.spare }
-        requires absent { saved_of f self.old.entries ≡ None }
-        ensures entries { self.new.entries ≡ self.old.entries ++ (f, saved) ∷ [] }
-        ensures spare { self.new.spare ≡ self.old.spare - 1 }
+    /// Makes the place of a file, where it has none: asked twice is as asked once. Nothing that is kept
+    /// changes. `Err` changes nothing.
+    pub fn room(&mut self, f: FileId) -> Result<(), NoMemory>
+        ensures room { OnOk result (has_place f self.new ≡ true) }
+        ensures again { has_place f self.old ≡ true → self.new ≡ self.old }
+        ensures others { (g : File) → file_same f g ≡ false → has_place g self.new ≡ has_place g self.old }
+        ensures kept { (g : File) → saved_of g self.new ≡ saved_of g self.old }
+        ensures err { OnErr result (self.new ≡ self.old) }
     {
-        put_within(&mut self.table, f, saved);
-        self.spare -= 1;
+        make_place(&mut self.places, f)
+    }
+
+    /// Keeps this of a file that has a place and of which nothing is kept. It takes no memory.
+    pub fn insert(&mut self, f: FileId, saved: Saved<T>)
+        requires room { has_place f self.old ≡ true }
+        requires absent { saved_of f self.old ≡ None }
+        ensures kept { (g : File) → saved_of g self.new ≡ (if file_same g f then Some saved else saved_of g self.old) }
+        ensures places { (g : File) → has_place g self.new ≡ has_place g self.old }
+    {
+        put_at(&mut self.places, f, saved);
     }
 }
 
-// What the entry of a file keeps.
-fn find_saved<T>(table: &IndexMap<FileId, Saved<T>>, f: FileId) -> Option<&Saved<T>>
-    ensures { option_copied result ≡ saved_of f table.now.entries }
+// What is kept at the place of a file.
+fn find_saved<T>(places: &IndexMap<FileId, Option<Saved<T>>>, f: FileId) -> Option<&Saved<T>>
+    ensures { option_copied result ≡ saved_of f places.now.entries }
 {
-    table.get(&f)
+    match places.get(&f) {
+        Some(kept) => kept.as_ref(),
+        None => None,
+    }
 }
 
-// Adds an entry of a file, which has none, to a table that has a place for it.
-fn put_within<T: Drop>(table: &mut IndexMap<FileId, Saved<T>>, f: FileId, saved: Saved<T>)
-    requires place { 0 < places_of table.old }
-    requires absent { saved_of f table.old.entries ≡ None }
-    ensures entries { table.new.entries ≡ table.old.entries ++ (f, saved) ∷ [] }
-    ensures places { places_of table.old ≤ places_of table.new + 1 }
+// Makes the place of a file, where it has none.
+fn make_place<T: Drop>(
+    places: &mut IndexMap<FileId, Option<Saved<T>>>,
+    f: FileId,
+) -> Result<(), NoMemory>
+    ensures room { OnOk result (has_place f places.new.entries ≡ true) }
+    ensures again { has_place f places.old.entries ≡ true → places.new.entries ≡ places.old.entries }
+    ensures others { (g : File) → file_same f g ≡ false → has_place g places.new.entries ≡ has_place g places.old.entries }
+    ensures kept { (g : File) → saved_of g places.new.entries ≡ saved_of g places.old.entries }
+    ensures err { OnErr result (places.new.entries ≡ places.old.entries) }
 {
-    if table.insert(f, saved).is_err() {
+    if has_place(places, f) {
+        return Ok(());
+    }
+    add_place(places, f)
+}
+
+// Whether a file has a place.
+fn has_place<T>(places: &IndexMap<FileId, Option<Saved<T>>>, f: FileId) -> bool
+    ensures { result ≡ has_place f places.now.entries }
+{
+    places.get(&f).is_some()
+}
+
+// Makes the place of a file that has none.
+fn add_place<T: Drop>(
+    places: &mut IndexMap<FileId, Option<Saved<T>>>,
+    f: FileId,
+) -> Result<(), NoMemory>
+    requires { has_place f places.old.entries ≡ false }
+    ensures ok { OnOk result (places.new.entries ≡ insert_entry file_same places.old.entries f None) }
+    ensures err { OnErr result (places.new.entries ≡ places.old.entries) }
+{
+    match places.insert(f, None) {
+        Ok(_) => Ok(()),
+        Err(_) => Err(NoMemory),
+    }
+}
+
+// Keeps this at the place of a file.
+fn put_at<T: Drop>(places: &mut IndexMap<FileId, Option<Saved<T>>>, f: FileId, saved: Saved<T>)
+    requires { has_place f places.old.entries ≡ true }
+    ensures kept { (g : File) → saved_of g places.new.entries ≡ (if file_same g f then Some saved else saved_of g places.old.entries) }
+    ensures places { (g : File) → has_place g places.new.entries ≡ has_place g places.old.entries }
+{
+    if places.insert(f, Some(saved)).is_err() {
         unreachable!();
     }
 }

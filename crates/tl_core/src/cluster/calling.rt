@@ -4,6 +4,7 @@ ghost use Rattle.std.specs.Prelude.{◌≡◌, ◌+◌, ◌<◌, ◌≤◌, ◌�
 ghost use Rattle.tl_model.specs.Actors.{is_idle};
 ghost use Rattle.tl_model.specs.Past.{command_with};
 ghost use Rattle.tl_model.specs.Rules.{put_has_its_bytes};
+ghost use Rattle.tl_names.specs.Answers.{HasFewOutputs};
 ghost use Rattle.tl_core.specs.Answers.{past_of};
 ghost use Rattle.tl_core.specs.Called.{Called, IsFitting, put_made, bytes_put, file_to_free, made_of, with_freed, with_saved};
 
@@ -33,6 +34,7 @@ impl<T: Ticket> Cluster<T> {
         ensures err { OnErr result (self.new ≡ self.old) }
     {
         self.journal.reserve(ROOM)?;
+        outputs_are_few(&command);
         let bytes = bytes_put(&command);
         let freed = file_held(&self.residents, file_to_free(&self.journal, &command));
         let (number, reply) = self.journal.call(alloc, actor, command)?;
@@ -40,6 +42,16 @@ impl<T: Ticket> Cluster<T> {
         record_freed(&mut self.journal, actor, freed);
         take_out(&mut self.residents, freed);
         Ok((number, reply))
+    }
+}
+
+// A job has no more outputs than its program counts in a byte.
+fn outputs_are_few<T>(command: &Command<T>)
+    requires { IsFitting command.now }
+    ensures { HasFewOutputs command.now }
+{
+    if let Command::Job { core, .. } = command {
+        let _outputs = core.get().program.outputs();
     }
 }
 

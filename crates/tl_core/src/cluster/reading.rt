@@ -15,7 +15,7 @@ use tl_io::Ticket;
 use tl_ledger::Ledger;
 use tl_model::{Act, Event};
 use tl_types::{Actor, Block, Digest, FileId, NoMemory, Shared, WorkerId};
-use tl_walk::{Output, open_read};
+use tl_walk::open_read;
 
 impl<T: Ticket> Cluster<T> {
     /// Looks for the file of the actor's open read. Where a memory has it, the read is served.
@@ -105,7 +105,7 @@ fn file_read<T>(events: &[Event<T>], actor: Actor) -> FileId
 fn look_in_store<T: Ticket>(events: &[Event<T>], file: FileId) -> Result<Look<T>, NoMemory>
     ensures { IfOk result (FoundInStore T.content (kept_put (reverse events.now) file)) }
 {
-    match kept_put(events, Output::from(file)) {
+    match kept_put(events, file) {
         Some(put) => Ok(Look::Saved(saved_put(put)?)),
         None => Ok(Look::NotYet),
     }

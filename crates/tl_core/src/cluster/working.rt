@@ -31,7 +31,7 @@ impl<T: Ticket> Cluster<T> {
         ensures ok { IfOk result (Claimed T.tells T.content self.old self.new actor worker) }
         ensures err { OnErr result (self.new ≡ self.old) }
     {
-        match take_up(alloc, self.journal.events(), &self.residents)? {
+        match take_up(alloc, &mut self.journal, &self.residents)? {
             Some(taken) => {
                 self.journal.reserve(ROOM)?;
                 let incarnation = incarnation(self.journal.events(), worker);

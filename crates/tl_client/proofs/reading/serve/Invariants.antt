@@ -9,7 +9,7 @@ use Rattle.tl_client.proofs.reading.serve.Given as goal
 
 abbrev pub invariant-rounds : goal.invariant-rounds
 invariant-rounds l = record {
-  runs : (ran : List RecordId) × Ran l.actor l.worker l.file ran l.fn.cluster.events l.cluster.events;
+  runs : (ran : List RecordId) × Ran l.fn.cluster.header.order l.actor l.worker l.file ran l.fn.cluster.events l.cluster.events;
   header : l.cluster.header ≡ l.fn.cluster.header;
   rest : NothingRuns (past_of l.cluster) l.actor;
   reads : SameReads (past_of l.fn.cluster) (past_of l.cluster);

@@ -7,7 +7,7 @@ use Rattle.tl_client.proofs.run.run_up_to.Given as goal
 
 abbrev pub invariant-jobs : goal.invariant-jobs
 invariant-jobs l = record {
-  ran : (ran : List RecordId) × RanInTurn l.actor l.worker ran l.fn.cluster.events l.cluster.events × (length ran ≡ l.count);
+  ran : (ran : List RecordId) × RanInTurn l.fn.cluster.header.order l.actor l.worker ran l.fn.cluster.events l.cluster.events × (length ran ≡ l.count);
   few : l.count ≤ l.n;
   header : l.cluster.header ≡ l.fn.cluster.header;
   rest : NothingRuns (past_of l.cluster) l.actor;

@@ -1,5 +1,5 @@
-use Rattle.tl_edge.specs.Names.{deleted-unnamed}
+use Rattle.tl_edge.proofs.Once.{last-unnames-one}
 use Rattle.tl_edge.proofs.laws.a_delete_unnames_its_file.Goals as goal
 
 pub returns : goal.returns
-returns c = λ past actor path paths files. deleted-unnamed past actor path paths files
+returns g c = λ judge header event past ok path is. last-unnames-one judge header event past ok path is

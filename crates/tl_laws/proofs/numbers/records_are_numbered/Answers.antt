@@ -1,8 +1,9 @@
 use Rattle.std.proofs.Common.{sym, subst}
 use Rattle.std.proofs.lemmas.Bool.{and_parts}
 use Rattle.tl_model.specs.Rules.{lawful_judge, all_permitted, is_quiet}
-use Rattle.tl_laws.specs.Numbers.{Numbered, all-numbered}
-use Rattle.tl_laws.specs.Tickets.{records-with}
+use Rattle.tl_laws.specs.Numbers.{Numbered}
+use Rattle.tl_laws.proofs.Numbering.{all-numbered}
+use Rattle.tl_laws.proofs.Tickets.{records-with}
 use Rattle.tl_laws.proofs.numbers.records_are_numbered.Goals as goal
 
 pub returns : goal.returns

@@ -1,6 +1,7 @@
 use Rattle.tl_model.specs.Past.{without_tickets}
 use Rattle.tl_model.specs.History.{records}
-use Rattle.tl_laws.specs.Order.{HasOlderInputs, waits-older, all-get}
+use Rattle.tl_laws.specs.Order.{HasOlderInputs}
+use Rattle.tl_laws.proofs.Order.{waits-older, all-get}
 use Rattle.tl_laws.proofs.Ordered.{lawful-ordered}
 use Rattle.tl_laws.proofs.numbers.waits_are_for_older.Goals as goal
 

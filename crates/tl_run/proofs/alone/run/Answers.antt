@@ -18,18 +18,18 @@ returns-in-Ok g c =
 pub returns-in-Ok-refusal : goal.returns-in-Ok-refusal
 returns-in-Ok-refusal g c =
     let stop = rw c.in-Err-BadScript.field-0-is at c.in-Err-BadScript.ensures in
-    ends_without _ _ c.without-in-Err-BadScript.result.kept _ _ BadScript c.finish.result c.without-in-Err-BadScript.result.status c.deref-in-Err-BadScript.result.now
+    ends_without _ _ c.without-in-Err-BadScript.result.kept _ _ BadScript c.finish.result c.without-in-Err-BadScript.result.status c.deref-in-Err-BadScript.result.now tt
     (record { bytes = stop.0; line = c.in-Err-BadScript.line; kind = c.in-Err-BadScript.kind; input = stop.1; refused = stop.2; printed = c.deref-in-Err-BadScript.ensures.value ∙ c.in-Ok-refusal.ensures })
     c.finish.ensures c.without-in-Err-BadScript.ensures.kept c.without-in-Err-BadScript.ensures.status
 
 pub returns-in-Err-ReadFault : goal.returns-in-Err-ReadFault
 returns-in-Err-ReadFault g c =
     let stop = rw c.in-Err-ReadFault.field-0-is at c.in-Err-ReadFault.ensures in
-    ends_without _ _ c.without-in-Err-ReadFault.result.kept _ _ ReadFault c.finish-in-Err-ReadFault.result c.without-in-Err-ReadFault.result.status _
+    ends_without _ _ c.without-in-Err-ReadFault.result.kept _ _ ReadFault c.finish-in-Err-ReadFault.result c.without-in-Err-ReadFault.result.status _ tt
     (record { faults = stop; printed = refl }) c.finish-in-Err-ReadFault.ensures c.without-in-Err-ReadFault.ensures.kept c.without-in-Err-ReadFault.ensures.status
 
 pub returns-in-Err-TooLong : goal.returns-in-Err-TooLong
 returns-in-Err-TooLong g c =
     let stop = rw c.in-Err-TooLong.field-0-is at c.in-Err-TooLong.ensures in
-    ends_without _ _ c.without-in-Err-TooLong.result.kept _ _ TooLong c.finish-in-Err-TooLong.result c.without-in-Err-TooLong.result.status _
+    ends_without _ _ c.without-in-Err-TooLong.result.kept _ _ TooLong c.finish-in-Err-TooLong.result c.without-in-Err-TooLong.result.status _ tt
     (record { more = stop.0; count = stop.1; printed = refl }) c.finish-in-Err-TooLong.ensures c.without-in-Err-TooLong.ensures.kept c.without-in-Err-TooLong.ensures.status

@@ -1,4 +1,3 @@
-use Rattle.std.proofs.Common.{refl}
 use Rattle.tl_script.specs.Tokens.{a_number}
 use Rattle.tl_script.specs.Places.{number_then, end}
 use Rattle.tl_script.proofs.Steps.{exit, stops_later, when_true, within}

@@ -1,7 +1,7 @@
-use Rattle.std.proofs.Common.{[], ◌∷◌, refl, arith}
+use Rattle.std.proofs.Common.{[], ◌∷◌, refl}
 use Rattle.std.proofs.lemmas.Bool.{le-leb}
 use Rattle.tl_script.specs.Tokens.{a_path, a_text}
-use Rattle.tl_script.specs.Places.{path_then, text_then, end, when, text_limit}
+use Rattle.tl_script.specs.Places.{path_then, text_then, end, text_limit}
 use Rattle.tl_script.proofs.Steps.{exit, stops_later, follows_spaced, when_true}
 use Rattle.tl_script.proofs.command.put.Goals as goal
 

@@ -1,6 +1,6 @@
-use Rattle.std.proofs.Common.{◌+◌, refl}
+use Rattle.std.proofs.Common.{◌+◌}
 use Rattle.tl_script.specs.Tokens.{a_number}
-use Rattle.tl_script.specs.Places.{number_then, path_then, end, reading, prio_limit}
+use Rattle.tl_script.specs.Places.{path_then, end, reading, prio_limit}
 use Rattle.tl_script.proofs.Steps.{exit, stops_later, when_true, within}
 use Rattle.tl_script.proofs.command.read.Goals as goal
 

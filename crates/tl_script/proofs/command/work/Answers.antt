@@ -1,4 +1,4 @@
-use Rattle.std.proofs.Common.{◌+◌, refl}
+use Rattle.std.proofs.Common.{◌+◌}
 use Rattle.tl_script.specs.Tokens.{a_number}
 use Rattle.tl_script.specs.Places.{number_then, end, count_limit}
 use Rattle.tl_script.proofs.Steps.{exit, stops_later, when_true, within}

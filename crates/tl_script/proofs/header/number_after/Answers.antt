@@ -1,4 +1,4 @@
-use Rattle.std.proofs.Common.{◌≡◌, ◌++◌, ◌≤◌, arith}
+use Rattle.std.proofs.Common.{◌≡◌, ◌++◌, arith}
 use Rattle.std.specs.Prelude.{decimal}
 use Rattle.tl_script.proofs.Headers.{numeral_is, no_error, same_number}
 use Rattle.tl_script.proofs.header.number_after.Goals as goal

@@ -1,7 +1,7 @@
-use Rattle.std.proofs.Common.{◌∷◌, refl, sym, ◌∙◌, ap, inr, arith}
+use Rattle.std.proofs.Common.{◌∷◌, refl, sym, inr, arith}
 use Rattle.std.proofs.lemmas.Bool.{le-leb}
 use Rattle.tl_script.specs.Tokens.{a_number}
-use Rattle.tl_script.specs.Places.{client, command, Refused, wrong, later, missing, client_limit}
+use Rattle.tl_script.specs.Places.{command, Refused, wrong, later, missing, client_limit}
 use Rattle.tl_script.specs.Script.{RefusedLine}
 use Rattle.tl_script.proofs.Steps.{exit, stops_more, when_true}
 use Rattle.tl_script.proofs.Wrong.{wrong_client}

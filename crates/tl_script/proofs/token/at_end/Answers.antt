@@ -1,4 +1,4 @@
-use Rattle.std.proofs.Common.{◌≡◌, [], length, ap, arith, sym, ◌∙◌}
+use Rattle.std.proofs.Common.{length, ap, sym}
 use Rattle.std.proofs.lemmas.Bool.{eqb-false}
 use Rattle.tl_script.proofs.Wrong.{refused_spare}
 use Rattle.tl_script.proofs.token.at_end.Goals as goal

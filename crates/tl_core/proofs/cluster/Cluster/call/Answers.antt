@@ -10,12 +10,8 @@ use Rattle.tl_core.specs.Called.{file_to_free, freed, if_resident, made_of, put_
 use Rattle.tl_core.specs.Residents.{file_held, without_file}
 use Rattle.tl_core.specs.State.{State}
 use Rattle.tl_core.proofs.Carry.{carried, roomier}
-use Rattle.tl_core.proofs.Calling.{fitting-few}
 use Rattle.tl_core.proofs.Freeing.{any_call, freed-held}
 use Rattle.tl_core.proofs.cluster.Cluster.call.Goals as goal
-
-pub call-requires-clause-few : goal.call-requires-clause-few
-call-requires-clause-few g c = fitting-few c.args.command c.requires.fitting
 
 pub invariant_of-self-in_err-number : goal.invariant_of-self-in_err-number
 invariant_of-self-in_err-number g c =

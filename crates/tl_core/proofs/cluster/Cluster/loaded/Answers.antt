@@ -68,7 +68,7 @@ invariant_of-self-in-None g c =
     (c.push_within.ensures.items ∙ ap (λ (rs : Residents). rs ++ record { worker = c.args.worker; block = c.args.block } ∷ []) c.in_ok-reserve-in-None.ensures.items)
     refl
     (brought g.T.Ticket.tells g.T.Ticket.content c.self.inside.journal.header events residents c.self.inside.journal.spare c.record_load.new.journal.spare
-    c.args.actor c.args.worker c.args.block c.digest-digest.result some.0 c.self.invariant some.1 file_is known gone saved val digests enough)
+    c.args.actor c.args.worker c.args.block c.digest-digest.result some.0 c.self.invariant some.1 file_is c.requires.actor known gone saved val digests enough)
 
 pub returns-in_ok-held-in-Some-clause-ok : goal.returns-in_ok-held-in-Some-clause-ok
 returns-in_ok-held-in-Some-clause-ok g c =

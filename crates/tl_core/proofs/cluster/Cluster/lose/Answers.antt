@@ -15,7 +15,7 @@ invariant_of-self-2 g c =
     (c.append.ensures.events ∙ ap (λ es. record { actor = c.args.actor; act = Lose c.args.worker } ∷ es) c.in_ok-reserve.ensures.events)
     c.empty.ensures c.append.ensures.spare
     (lost g.T.Ticket.tells g.T.Ticket.content c.self.inside.journal.header c.self.inside.journal.events c.self.inside.residents.items c.self.inside.journal.spare
-    c.reserve.new.self.spare c.args.actor c.args.worker c.self.invariant known c.in_ok-reserve.ensures.room)
+    c.reserve.new.self.spare c.args.actor c.args.worker c.self.invariant c.requires.actor known c.in_ok-reserve.ensures.room)
 
 pub returns-clause-held : goal.returns-clause-held
 returns-clause-held g c = λ f.

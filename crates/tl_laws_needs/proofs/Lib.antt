@@ -1,0 +1,9 @@
+pub mod Places
+pub mod Sound
+pub mod Waiting
+pub mod Named
+pub mod Next
+pub mod Unneeded
+pub mod Later
+pub mod Makers
+pub mod Reaching

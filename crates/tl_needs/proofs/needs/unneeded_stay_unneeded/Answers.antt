@@ -1,5 +1,0 @@
-use Rattle.tl_needs.specs.Later.{never-needed}
-use Rattle.tl_needs.proofs.needs.unneeded_stay_unneeded.Goals as goal
-
-pub returns : goal.returns
-returns g c = λ judge header later events ok made there unneeded. (never-needed judge header later events ok made (there, unneeded)).1

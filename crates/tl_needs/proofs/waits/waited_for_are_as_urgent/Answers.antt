@@ -1,8 +1,0 @@
-use Rattle.tl_model.specs.Past.{without_tickets}
-use Rattle.tl_needs.specs.Sound.{sound-of}
-use Rattle.tl_needs.specs.Waits.{waited-has-prio}
-use Rattle.tl_needs.proofs.waits.waited_for_are_as_urgent.Goals as goal
-
-pub returns : goal.returns
-returns g c = λ judge header events h i j reader maker at_r at_q waiting.
-    waited-has-prio (without_tickets events) (sound-of judge header events h) i j reader maker at_r at_q waiting

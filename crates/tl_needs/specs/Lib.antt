@@ -1,9 +1,0 @@
-pub mod Places
-pub mod Sound
-pub mod Waits
-pub mod Named
-pub mod Next
-pub mod Unneeded
-pub mod Later
-pub mod Makers
-pub mod Reach

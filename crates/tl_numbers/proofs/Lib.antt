@@ -1,0 +1,4 @@
+mod Bits
+mod Layering
+mod Rows
+mod Views

@@ -1,0 +1,4 @@
+pub mod Adding
+pub mod Longer
+pub mod Glimpses
+pub mod Begun

@@ -1,0 +1,5 @@
+use Rattle.tl_pieces.proofs.Adding.{added-both}
+use Rattle.tl_pieces.proofs.additions.additions_follow_each_other.Goals as goal
+
+pub returns : goal.returns
+returns g c = λ whole actor first then before between after a b. added-both whole actor first then before between after a b

@@ -1,0 +1,4 @@
+pub mod Own
+pub mod Moments
+pub mod Published
+pub mod Runs

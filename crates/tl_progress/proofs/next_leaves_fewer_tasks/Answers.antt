@@ -1,5 +1,0 @@
-use Rattle.tl_progress.specs.Reads.{next-leaves-fewer}
-use Rattle.tl_progress.proofs.next_leaves_fewer_tasks.Goals as goal
-
-pub returns : goal.returns
-returns g c = λ header events lawful idle actor worker made is. next-leaves-fewer header events lawful idle actor worker made is

@@ -1,8 +1,0 @@
-use Rattle.std.proofs.Common.{◌≡◌, take, reverse}
-use Rattle.tl_walk.specs.Names.{names_in}
-use Rattle.tl_model.specs.Past.{without_tickets}
-use Rattle.tl_model.specs.History.{names}
-use Rattle.tl_walk.proofs.names.names.Given as goal
-
-abbrev pub invariant-loop-event : goal.invariant-loop-event
-invariant-loop-event g l = names_in l.names.items ≡ names (without_tickets (reverse (take l.event-index l.events)))
