@@ -20,6 +20,8 @@ use Rattle.tl_model.specs.Rules.{ok_file}
 use Rattle.tl_laws.proofs.Paths.{walk_to_file-finds}
 use Rattle.tl_laws.proofs.Refusals.{inputs-refuse, inputs-unrefused, job_made, new_refusal-refuses, or_else-refuses, outputs-refuse, put_made, refuse_where-refuses, unrefused}
 use Rattle.tl_steps.specs.Steps.{accepts, accepts_with, added}
+use Rattle.tl_prio.specs.Data.{OrderData}
+use Rattle.tl_prio.specs.Standing.{StandsBefore, StandsFor}
 use Rattle.tl_ledger.specs.Naming.{file_named, files_named, record_for, with_found}
 use Rattle.tl_ledger.specs.Parts.{HaveRoom, IsAtHand, PartsData, list_of}
 
@@ -172,6 +174,11 @@ none-made names command NotEmpty h = refl
 none-made names command TooDeep h = refl
 none-made names command IntoItself h = refl
 none-made names command TooMany h = refl
+
+-- an act that adds a record is no claim
+pub unclaimed : (order : OrderData) (past : Past) (act : Act (Unit {0})) → accepts act ≡ true → StandsFor order past → StandsBefore act order past
+unclaimed order past (Call command reply) h stand = stand
+unclaimed order past act h stand = absurd (cc)
 
 -- an act that accepts nothing adds no record
 pub none-added : (past : Past) (act : Act (Unit {0})) → accepts act ≡ false → added past act ≡ []

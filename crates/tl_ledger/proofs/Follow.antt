@@ -71,12 +71,22 @@ no-call actor (Collect made) calls h = refl
 pub followed-by : {T : Type 0} (old new : PartsData) (header : Header) (events : List (Event T)) (event : Event T) → FollowPast old header events →
     new.order.turns.rule ≡ old.order.turns.rule →
     new.graph.slots ≡ slots_after (without_tickets events) (act_with (λ _. tt) event.act) old.graph.slots →
-    (StandFor old (without_tickets events) → all_permitted lawful_judge header (event ∷ events) ≡ true → StandFor new (without_tickets (event ∷ events))) →
+    (StandFor header old (without_tickets events) → all_permitted lawful_judge header (event ∷ events) ≡ true → StandFor header new (without_tickets (event ∷ events))) →
     FollowPast new header (event ∷ events)
 followed-by old new header events event follow rule slots stand = record {
   rule = rule ∙ follow.rule;
   slots = slots ∙ ap (slots_after (without_tickets events) (act_with (λ _. tt) event.act)) follow.slots;
   stand = λ ok. stand (follow.stand (and_parts (is_none (broken lawful_judge header events event)) (all_permitted lawful_judge header events) ok).1) ok;
+}
+
+-- the parts with more room
+pub kept-by : {T : Type 0} (old new : PartsData) (header : Header) (events : List (Event T)) → FollowPast old header events →
+    new.order.turns.rule ≡ old.order.turns.rule → new.graph.slots ≡ old.graph.slots →
+    ((header : Header) (past : Past) → StandFor header old past → StandFor header new past) → FollowPast new header events
+kept-by old new header events follow rule slots stand = record {
+  rule = rule ∙ follow.rule;
+  slots = slots ∙ follow.slots;
+  stand = λ ok. stand header (without_tickets events) (follow.stand ok);
 }
 
 -- the record that was made ready is the one that the call adds to the past

@@ -1,5 +1,5 @@
 -- A graph of a past has a slot for each accepted record.
-use Rattle.std.proofs.Common.{◌≡◌, ◌+◌, ℕ, zero, suc, List, [], ◌∷◌, ◌++◌, length, map, slice_get, slice_set, Option, Some, None, refl, sym, ap, ◌∙◌, arith, length-append}
+use Rattle.std.proofs.Common.{◌≡◌, ◌+◌, ◌<◌, ◌^◌, ℕ, zero, suc, List, [], ◌∷◌, ◌++◌, length, map, slice_get, slice_set, Option, Some, None, refl, sym, ap, ◌∙◌, arith, length-append}
 use Rattle.std.specs.Option.{option_map_or}
 use Rattle.tl_types.specs.declared.actor.Actor.{Actor}
 use Rattle.tl_model.specs.declared.event.Act.{Act}
@@ -24,6 +24,9 @@ removed-length n slots (Some slot) = set-length slots n (removed slot)
 pub map-length : {A B : Type 0} (f : A → B) (xs : List A) → length (map f xs) ≡ length xs
 map-length f [] = refl
 map-length f (x ∷ xs) = ap suc (map-length f xs)
+
+pub fewer : {A : Type 0} (x : A) (xs : List A) → length (x ∷ xs) < 2 ^ 64 → length xs < 2 ^ 64
+fewer x xs few = omega arith
 
 more-length : (slots : List Slot) (rs more : List Record) → length slots ≡ length rs → length (slots ++ map Kept more) ≡ length (rs ++ more)
 more-length slots rs more e =

@@ -2,7 +2,9 @@
 use Rattle.std.specs.Prelude.{List, [], ◌∷◌, length, Option, Some, None}
 use Rattle.tl_types.specs.declared.record_id.RecordId.{RecordId}
 use Rattle.tl_model.specs.declared.command.Command.{Command}
-use Rattle.tl_model.specs.declared.command.Command.TheVariants.{Put, Job}
+use Rattle.tl_model.specs.declared.command.Command.TheVariants.{Put, Job, Delete}
+use Rattle.tl_model.specs.declared.reply.Reply.{Reply}
+use Rattle.tl_model.specs.declared.reply.Reply.TheVariants.{Fine}
 use Rattle.tl_model.specs.declared.record.Record.{Record}
 use Rattle.tl_model.specs.declared.record.Record.TheVariants as kind
 use Rattle.tl_types.specs.declared.file_id.FileId.{FileId}
@@ -36,3 +38,13 @@ record_for made names (Put path len digest ticket) = Some (kind.Put made)
 record_for made names (Job core prio inputs outputs) =
     Some (kind.Job made core prio (files_named names inputs) (length outputs))
 record_for made names _ = None
+
+-- the file that a command is to delete, if there is one
+abbrev pub deleted_file : {T : Type 0} → Names → Command T → Option FileId
+deleted_file names (Delete path) = file_named names path
+deleted_file names _ = None
+
+-- the file that a call leaves without a name, of the one that it was to delete
+abbrev pub gone_after : Reply → Option FileId → Option FileId
+gone_after Fine deleted = deleted
+gone_after _ deleted = None

@@ -1,4 +1,5 @@
-ghost use Rattle.std.specs.Prelude.{◌≡◌, ◌+◌, ◌-◌, ◌<◌, ◌≤◌, ◌∷◌, [], true, length, reverse, if◌then◌else◌, None, IfOk, OnOk, OnErr};
+ghost use Rattle.std.specs.Prelude.{◌≡◌, ◌+◌, ◌-◌, ◌<◌, ◌≤◌, ◌∷◌, [], None, IfOk, OnOk, OnErr};
+ghost use Rattle.std.specs.Prelude.{true, length, reverse, if◌then◌else◌};
 ghost use Rattle.std.specs.Option.{option_copied};
 ghost use Rattle.tl_ledger.specs.Naming.{file_named};
 ghost use Rattle.tl_model.specs.History.{calls_of, names_of, record_at, reply_after};
@@ -10,18 +11,21 @@ ghost use Rattle.tl_model.specs.Rules.{all_permitted, lawful_judge};
 ghost use Rattle.tl_names.specs.Answers.{HasFewOutputs};
 
 use crate::copying::copy_reply;
+use crate::files::{deleted_file, gone_after};
 use crate::parts::{Parts, make_room, note_call};
 use crate::records::{file_named, record_for};
 use std::alloc::Global;
 use std::marker::Model;
+use tl_edge::{a_delete_unnames_its_file, only_deletes_unname};
 use tl_io::Ticket;
 use tl_model::{Act, Command, Event, Header, Journal, Record, Reply};
 use tl_names::Names;
 use tl_types::{Actor, FileId, NoMemory, Path, RecordId};
 
-/// The journal, and what is kept in step with it: the names of its history in tables, its records, which
-/// of them are tasks, and which is next. Contracts see the header, the events with the newest first, and
-/// how many more may be appended without asking for memory.
+/// The journal, and what is kept in step with it: the names of its history in tables, its records,
+/// which of them are tasks, which is next, which file is saved next, and which record may be let go.
+/// Contracts see the header, the events with the newest first, and how many more may be appended
+/// without asking for memory.
 #[derive(Drop)]
 pub struct Ledger<T: Ticket> {
     journal: Journal<T>,
@@ -43,7 +47,9 @@ impl<T: Ticket> Model for Ledger<T> {
 
     ghost coded = { Prim.hlevel (codes, expr.the_row.coded, T.code) };
 
-    ghost view = { λ l. record { header = l.journal.header; events = l.journal.events; spare = l.journal.spare } };
+    ghost view = { λ l.
+        let journal = l.journal in
+        record { header = journal.header; events = journal.events; spare = journal.spare } };
 
     ghost invariant = { λ l. Follows l.names l.next.0 (calls_of l.journal.events)
         × FollowPast l.parts l.journal.header l.journal.events };
@@ -105,7 +111,8 @@ impl<T: Ticket> Ledger<T> {
         file_named(&self.names, path)
     }
 
-    /// The record that is next, where all the events are permitted. It changes nothing that contracts see.
+    /// The record that is next, where all the events are permitted. It changes nothing that contracts
+    /// see.
     pub fn next(&mut self) -> Option<RecordId>
         ensures next { all_permitted lawful_judge self.old.header self.old.events ≡ true →
             result ≡ next self.old.header.order (without_tickets self.old.events) }
@@ -131,13 +138,14 @@ impl<T: Ticket> Ledger<T> {
         ensures spare { self.new.spare ≡ self.old.spare - 1 }
         ensures header { self.new.header ≡ self.old.header }
     {
-        let _count = self.journal.len();
-        self.parts.note(&event);
+        only_deletes_unname::<T>();
+        self.parts.note(&event, None);
         self.journal.append(event);
+        let _count = self.journal.len();
     }
 
-    /// Makes a call, for which there must be room: answers its number in the history and the reply that the history
-    /// determines, and records it. A job has at most 255 outputs.
+    /// Makes a call, for which there must be room: answers its number in the history and the reply
+    /// that the history determines, and records it. A job has at most 255 outputs.
     pub fn call(
         &mut self,
         alloc: Global,
@@ -147,24 +155,30 @@ impl<T: Ticket> Ledger<T> {
         requires room { 0 < self.old.spare }
         requires few { HasFewOutputs command }
         ensures number { IfOk result (λ answer. answer.0 ≡ call_count self.old.events) }
-        ensures reply { IfOk result (λ answer. answer.1 ≡ reply_after (calls_of self.old.events) command) }
-        ensures events { IfOk result (λ answer. self.new.events ≡ record { actor = actor; act = Act.Call command answer.1 } ∷ self.old.events) }
+        ensures reply { IfOk result (λ answer.
+            answer.1 ≡ reply_after (calls_of self.old.events) command) }
+        ensures events { IfOk result (λ answer. self.new.events
+            ≡ record { actor = actor; act = Act.Call command answer.1 } ∷ self.old.events) }
         ensures spare { OnOk result (self.new.spare ≡ self.old.spare - 1) }
         ensures header { self.new.header ≡ self.old.header }
         ensures err { OnErr result (self.new ≡ self.old) }
     {
+        only_deletes_unname::<T>();
+        a_delete_unnames_its_file::<T>();
         let number = self.journal.calls();
-        let _count = self.journal.len();
         let rec = record_for(alloc, &self.names, self.next, &command)?;
+        let deleted = deleted_file(&self.names, &command);
         make_room(alloc, &mut self.parts, &rec)?;
         let reply = self.names.apply(alloc, &command, self.next)?;
         let answer = copy_reply(alloc, &reply)?;
+        let gone = gone_after(&reply, deleted);
         let event = Event {
             actor,
             act: Act::Call(command, reply),
         };
-        self.next = note_call(&mut self.parts, self.next, &event, rec);
+        self.next = note_call(&mut self.parts, self.next, &event, rec, gone);
         self.journal.append(event);
+        let _count = self.journal.len();
         Ok((number, answer))
     }
 }

@@ -4,7 +4,8 @@ ghost use Rattle.std.specs.Prelude.{◌≡◌, ◌++◌, ◌∷◌, IfOk, List};
 ghost use Rattle.tl_model.specs.Namespace.{Names as NameList, PathOf};
 ghost use Rattle.tl_names.specs.Answers.{HasFewOutputs};
 ghost use Rattle.tl_names.specs.Standing.{StandsFor};
-ghost use Rattle.tl_ledger.specs.Naming.{file_found, file_named, files_named, record_for, with_found};
+ghost use Rattle.tl_ledger.specs.Naming.{file_found, file_named, files_named, record_for};
+ghost use Rattle.tl_ledger.specs.Naming.{with_found};
 
 use std::alloc::{AllocError, Global};
 use tl_model::{Command, Record};
@@ -19,7 +20,8 @@ pub(crate) fn record_for<T>(
     command: &Command<T>,
 ) -> Result<Option<Record>, NoMemory>
     requires { HasFewOutputs command.now }
-    ensures { (ns : NameList) → StandsFor names.now.dirs ns → IfOk result (λ rec. rec ≡ record_for made ns command.now) }
+    ensures { (ns : NameList) → StandsFor names.now.dirs ns →
+        IfOk result (λ rec. rec ≡ record_for made ns command.now) }
 {
     match command {
         Command::Put { .. } => Ok(Some(Record::Put { id: made })),
@@ -44,7 +46,8 @@ pub(crate) fn record_for<T>(
 
 // The files that the paths name.
 fn files_named(alloc: Global, names: &Names, paths: &[Path]) -> Result<Vec<FileId>, AllocError>
-    ensures { (ns : NameList) → StandsFor names.now.dirs ns → IfOk result (λ files. files.items ≡ files_named ns paths.now) }
+    ensures { (ns : NameList) → StandsFor names.now.dirs ns →
+        IfOk result (λ files. files.items ≡ files_named ns paths.now) }
 {
     let mut files = Vec::new(alloc);
     let mut rest = paths;
