@@ -1,7 +1,9 @@
-//! The file that a call leaves without a name.
+//! The file that a call leaves without a name, and which files are pinned.
 
-ghost use Rattle.std.specs.Prelude.{◌≡◌};
+ghost use Rattle.std.specs.Prelude.{◌≡◌, ℕ};
+ghost use Rattle.std.specs.List.{list_any};
 ghost use Rattle.tl_model.specs.Namespace.{Names as NameList};
+ghost use Rattle.tl_names.specs.Pins.{PinsStandFor, pins_file};
 ghost use Rattle.tl_names.specs.Standing.{StandsFor};
 ghost use Rattle.tl_ledger.specs.Naming.{deleted_file, gone_after};
 
@@ -28,4 +30,12 @@ pub(crate) fn gone_after(reply: &Reply, deleted: Option<FileId>) -> Option<FileI
         Reply::Fine => deleted,
         _ => None,
     }
+}
+
+/// Whether the file is pinned.
+pub(crate) fn is_pinned(names: &Names, file: FileId) -> bool
+    ensures { (ns : NameList) (count : ℕ) → PinsStandFor names.now.pins ns count →
+        result ≡ list_any (pins_file file) ns }
+{
+    names.pinned(file).unwrap_or(false)
 }

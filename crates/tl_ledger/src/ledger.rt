@@ -2,16 +2,18 @@ ghost use Rattle.std.specs.Prelude.{◌≡◌, ◌+◌, ◌-◌, ◌<◌, ◌≤
 ghost use Rattle.std.specs.Prelude.{true, length, reverse, if◌then◌else◌};
 ghost use Rattle.std.specs.Option.{option_copied};
 ghost use Rattle.tl_ledger.specs.Naming.{file_named};
-ghost use Rattle.tl_model.specs.History.{calls_of, names_of, record_at, reply_after};
+ghost use Rattle.tl_model.specs.Checkpoints.{next_save};
+ghost use Rattle.tl_model.specs.History.{calls_of, is_pinned, names_of, record_at, reply_after};
 ghost use Rattle.tl_model.specs.Journal.{call_count, calls_in};
+ghost use Rattle.tl_model.specs.Needs.{garbage};
 ghost use Rattle.tl_model.specs.Past.{without_tickets};
-ghost use Rattle.tl_model.specs.Plan.{next};
-ghost use Rattle.tl_model.specs.Residency.{is_kept};
+ghost use Rattle.tl_model.specs.Plan.{is_ready, is_task, is_wanted, next};
+ghost use Rattle.tl_model.specs.Residency.{is_available, is_kept, place};
 ghost use Rattle.tl_model.specs.Rules.{all_permitted, lawful_judge};
 ghost use Rattle.tl_names.specs.Answers.{HasFewOutputs};
 
 use crate::copying::copy_reply;
-use crate::files::{deleted_file, gone_after};
+use crate::files::{deleted_file, gone_after, is_pinned};
 use crate::parts::{Parts, make_room, note_call};
 use crate::records::{file_named, record_for};
 use std::alloc::Global;
@@ -20,7 +22,7 @@ use tl_edge::{a_delete_unnames_its_file, only_deletes_unname};
 use tl_io::Ticket;
 use tl_model::{Act, Command, Event, Header, Journal, Record, Reply};
 use tl_names::Names;
-use tl_types::{Actor, FileId, NoMemory, Path, RecordId};
+use tl_types::{Actor, FileId, NoMemory, Path, RecordId, WorkerId};
 
 /// The journal, and what is kept in step with it: the names of its history in tables, its records,
 /// which of them are tasks, which is next, which file is saved next, and which record may be let go.
@@ -111,6 +113,13 @@ impl<T: Ticket> Ledger<T> {
         file_named(&self.names, path)
     }
 
+    /// Whether the file is pinned after this history.
+    pub fn is_pinned(&self, file: FileId) -> bool
+        ensures { result ≡ is_pinned (without_tickets self.now.events) file }
+    {
+        is_pinned(&self.names, file)
+    }
+
     /// The record that is next, where all the events are permitted. It changes nothing that contracts
     /// see.
     pub fn next(&mut self) -> Option<RecordId>
@@ -119,6 +128,65 @@ impl<T: Ticket> Ledger<T> {
         ensures same { self.new ≡ self.old }
     {
         self.parts.next()
+    }
+
+    /// The file that is saved next, where all the events are permitted. `None` exactly where none is to
+    /// be saved.
+    pub fn next_save(&self) -> Option<FileId>
+        ensures { all_permitted lawful_judge self.now.header self.now.events ≡ true →
+            result ≡ next_save self.now.header (without_tickets self.now.events) }
+    {
+        self.parts.next_save()
+    }
+
+    /// The least record that is kept and not needed, where all the events are permitted. `None` exactly
+    /// where there is none. It changes nothing that contracts see.
+    pub fn garbage(&mut self) -> Option<RecordId>
+        ensures garbage { all_permitted lawful_judge self.old.header self.old.events ≡ true →
+            result ≡ garbage (without_tickets self.old.events) }
+        ensures same { self.new ≡ self.old }
+    {
+        self.parts.garbage()
+    }
+
+    /// Whether the record is a task, where all the events are permitted.
+    pub fn is_task(&self, made: RecordId) -> bool
+        ensures { all_permitted lawful_judge self.now.header self.now.events ≡ true →
+            result ≡ is_task (without_tickets self.now.events) made }
+    {
+        self.parts.is_task(made)
+    }
+
+    /// Whether the record is a task that can be run, where all the events are permitted.
+    pub fn is_ready(&self, made: RecordId) -> bool
+        ensures { all_permitted lawful_judge self.now.header self.now.events ≡ true →
+            result ≡ is_ready (without_tickets self.now.events) made }
+    {
+        self.parts.is_ready(made)
+    }
+
+    /// Whether the file is wanted, where all the events are permitted.
+    pub fn is_wanted(&self, file: FileId) -> bool
+        ensures { all_permitted lawful_judge self.now.header self.now.events ≡ true →
+            result ≡ is_wanted (without_tickets self.now.events) file }
+    {
+        self.parts.is_wanted(file)
+    }
+
+    /// Whether the file is in memory or saved, where all the events are permitted.
+    pub fn is_available(&self, file: FileId) -> bool
+        ensures { all_permitted lawful_judge self.now.header self.now.events ≡ true →
+            result ≡ is_available (without_tickets self.now.events) file }
+    {
+        self.parts.is_available(file)
+    }
+
+    /// The worker in whose memory the file is, if it is in one, where all the events are permitted.
+    pub fn place(&self, file: FileId) -> Option<WorkerId>
+        ensures { all_permitted lawful_judge self.now.header self.now.events ≡ true →
+            result ≡ place (without_tickets self.now.events) file }
+    {
+        self.parts.place(file)
     }
 
     /// The record of a number, while it is kept, where all the events are permitted.

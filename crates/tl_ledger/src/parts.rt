@@ -7,9 +7,12 @@ ghost use Rattle.std.specs.Option.{option_copied};
 ghost use Rattle.tl_model.specs.declared.event.Event.{Event as EventOf};
 ghost use Rattle.tl_model.specs.declared.header.Header.{Header as HeaderOf};
 ghost use Rattle.tl_model.specs.declared.record.Record.{Record as RecordOf};
+ghost use Rattle.tl_model.specs.Checkpoints.{next_save};
 ghost use Rattle.tl_model.specs.History.{id_of};
+ghost use Rattle.tl_model.specs.Needs.{garbage};
 ghost use Rattle.tl_model.specs.Past.{Past, act_with, without_tickets};
-ghost use Rattle.tl_model.specs.Plan.{next};
+ghost use Rattle.tl_model.specs.Plan.{is_ready, is_task, is_wanted, next};
+ghost use Rattle.tl_model.specs.Residency.{is_available, place};
 ghost use Rattle.tl_lineage.specs.Slots.{record_of, with_removed};
 ghost use Rattle.tl_lineage.specs.declared.slot.Slot.TheVariants.{Kept};
 ghost use Rattle.tl_lineage.specs.Standing.{slots_after};
@@ -24,11 +27,11 @@ use std::marker::Model;
 use tl_edge::Edge;
 use tl_gc::Gc;
 use tl_lineage::Graph;
-use tl_model::{Act, Event, Header, Record};
+use tl_model::{Act, Event, Facts, Header, Record};
 use tl_plan::Plan;
 use tl_prio::Order;
 use tl_steps::accepts;
-use tl_types::{FileId, NoMemory, RecordId};
+use tl_types::{FileId, NoMemory, RecordId, WorkerId};
 
 /// The parts that are kept in step with a journal. Contracts see what each keeps.
 #[derive(Drop)]
@@ -133,6 +136,63 @@ impl Parts {
         ensures same { self.new ≡ self.old }
     {
         self.order.next(&self.plan)
+    }
+
+    /// The file that is saved next.
+    pub(crate) fn next_save(&self) -> Option<FileId>
+        ensures { (header : HeaderOf) (past : Past) → StandFor header self.now past →
+            result ≡ next_save header past }
+    {
+        self.edge.pick()
+    }
+
+    /// The least record that is kept and not needed.
+    pub(crate) fn garbage(&mut self) -> Option<RecordId>
+        ensures garbage { (header : HeaderOf) (past : Past) → StandFor header self.old past →
+            result ≡ garbage past }
+        ensures same { self.new ≡ self.old }
+    {
+        self.gc.garbage(&self.plan)
+    }
+
+    /// Whether the record is a task.
+    pub(crate) fn is_task(&self, made: RecordId) -> bool
+        ensures { (header : HeaderOf) (past : Past) → StandFor header self.now past →
+            result ≡ is_task past made }
+    {
+        self.plan.is_task(made)
+    }
+
+    /// Whether the record is a task that can be run.
+    pub(crate) fn is_ready(&self, made: RecordId) -> bool
+        ensures { (header : HeaderOf) (past : Past) → StandFor header self.now past →
+            result ≡ is_ready past made }
+    {
+        self.plan.is_ready(made)
+    }
+
+    /// Whether the file is wanted.
+    pub(crate) fn is_wanted(&self, file: FileId) -> bool
+        ensures { (header : HeaderOf) (past : Past) → StandFor header self.now past →
+            result ≡ is_wanted past file }
+    {
+        self.plan.is_wanted(file)
+    }
+
+    /// Whether the file is in memory or saved.
+    pub(crate) fn is_available(&self, file: FileId) -> bool
+        ensures { (header : HeaderOf) (past : Past) → StandFor header self.now past →
+            result ≡ is_available past file }
+    {
+        self.plan.is_available(file)
+    }
+
+    /// The worker in whose memory the file is, if it is in one.
+    pub(crate) fn place(&self, file: FileId) -> Option<WorkerId>
+        ensures { (header : HeaderOf) (past : Past) → StandFor header self.now past →
+            result ≡ place past file }
+    {
+        self.plan.place(file)
     }
 
     /// The record of a number, while it is kept.
