@@ -1,5 +1,5 @@
 -- The record that a call adds is the one that was made ready for it.
-use Rattle.std.proofs.Common.{◌≡◌, ◌≤◌, ◌<◌, ◌+◌, ℕ, Bool, true, false, List, [], ◌∷◌, length, Option, Some, None, Result, Ok, Err, refl, sym, ap, ◌∙◌, arith}
+use Rattle.std.proofs.Common.{◌≡◌, ◌<◌, ℕ, Bool, true, false, List, [], ◌∷◌, length, Option, Some, None, Result, Ok, Err, refl, sym, ap, ◌∙◌}
 use Rattle.std.proofs.lemmas.Bool.{leb-false}
 use Rattle.tl_types.specs.Same.{record_same-Decides}
 use Rattle.tl_types.specs.declared.file_id.FileId.{FileId}
@@ -22,7 +22,7 @@ use Rattle.tl_laws.proofs.Refusals.{inputs-refuse, inputs-unrefused, job_made, n
 use Rattle.tl_steps.specs.Steps.{accepts, accepts_with, added}
 use Rattle.tl_prio.specs.Data.{OrderData}
 use Rattle.tl_prio.specs.Standing.{StandsBefore, StandsFor}
-use Rattle.tl_ledger.specs.Naming.{file_named, files_named, record_for, with_found}
+use Rattle.tl_ledger.specs.Naming.{files_named, record_for, with_found}
 use Rattle.tl_ledger.specs.Parts.{HaveRoom, IsAtHand, PartsData, list_of}
 
 -- ---- inputs

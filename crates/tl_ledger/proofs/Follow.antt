@@ -1,7 +1,6 @@
 -- The parts follow a journal, event by event.
-use Rattle.std.proofs.Common.{◌≡◌, ◌+◌, ◌<◌, ◌^◌, ℕ, true, false, ◌&&◌, List, [], ◌∷◌, length, slice_get, Option, Some, None, is_none, if◌then◌else◌, refl, sym, ap, ◌∙◌, subst, arith}
+use Rattle.std.proofs.Common.{◌≡◌, ◌+◌, ℕ, true, false, List, ◌∷◌, length, slice_get, Option, None, is_none, if◌then◌else◌, refl, sym, ap, ◌∙◌, arith}
 use Rattle.std.proofs.lemmas.Bool.{and_parts}
-use Rattle.std.specs.Option.{option_copied}
 use Rattle.tl_types.specs.declared.actor.Actor.{Actor}
 use Rattle.tl_types.specs.declared.record_id.RecordId.{RecordId}
 use Rattle.tl_model.specs.declared.command.Command.{Command}
@@ -16,22 +15,20 @@ use Rattle.tl_model.specs.declared.reply.Reply.{Reply}
 use Rattle.tl_model.specs.declared.reply.Reply.TheVariants.{Made, Fine, Opened, Listed, Stated, Exists, NoSuch, NotFile, NotDir, NotEmpty, TooDeep, IntoItself, TooMany}
 use Rattle.tl_model.specs.History.{HistoryOf, calls_of, names, names_of, record_at, record_made, records, records_of, with_call}
 use Rattle.tl_model.specs.Journal.{calls_in}
-use Rattle.tl_model.specs.Past.{Past, act_with, command_with, event_with, without_tickets}
-use Rattle.tl_model.specs.Plan.{next}
+use Rattle.tl_model.specs.Past.{Past, act_with, command_with, without_tickets}
 use Rattle.tl_model.specs.Replies.{reply_to}
 use Rattle.tl_model.specs.Residency.{is_kept}
 use Rattle.tl_model.specs.Rules.{all_permitted, broken, lawful_judge}
-use Rattle.tl_laws.proofs.Tickets.{names-with, record_made-with, records-with}
+use Rattle.tl_laws.proofs.Tickets.{names-with, record_made-with}
 use Rattle.tl_lineage.specs.Slots.{record_of}
 use Rattle.tl_lineage.specs.Standing.{Stand, is_gone, slots_after, slots_of}
 use Rattle.tl_lineage.specs.declared.slot.Slot.{Slot}
 use Rattle.tl_lineage.proofs.Lawful.{permitted-stand}
 use Rattle.tl_lineage.proofs.Stands.{found-at}
-use Rattle.tl_steps.specs.Steps.{accepts, accepts_with}
-use Rattle.tl_ledger.specs.Following.{Follows}
+use Rattle.tl_steps.specs.Steps.{accepts}
 use Rattle.tl_ledger.specs.Naming.{record_for}
-use Rattle.tl_ledger.specs.Parts.{FollowPast, IsAdded, PartsData, StandFor, count_after, list_of}
-use Rattle.tl_ledger.proofs.Added.{IsRecord, call-record}
+use Rattle.tl_ledger.specs.Parts.{FollowPast, IsAdded, PartsData, StandFor, count_after}
+use Rattle.tl_ledger.proofs.Added.{call-record}
 
 -- an act that is no call accepts nothing
 pub accepts-none : {T : Type 0} (act : Act T) → calls_in act ≡ 0 → accepts (act_with {U = Unit {0}} (λ _. tt) act) ≡ false

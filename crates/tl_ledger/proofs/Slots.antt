@@ -7,7 +7,7 @@ use Rattle.tl_model.specs.declared.event.Act.TheVariants.{Call, Served, Shut, Cl
 use Rattle.tl_model.specs.declared.record.Record.{Record}
 use Rattle.tl_model.specs.History.{names, record_made, records}
 use Rattle.tl_model.specs.Past.{Past}
-use Rattle.tl_lineage.specs.Slots.{removed, with_removed}
+use Rattle.tl_lineage.specs.Slots.{removed}
 use Rattle.tl_lineage.specs.Standing.{slots_after, slots_of}
 use Rattle.tl_lineage.specs.declared.slot.Slot.{Slot}
 use Rattle.tl_lineage.specs.declared.slot.Slot.TheVariants.{Kept}

@@ -1,6 +1,5 @@
 -- The tables keep step with a call.
-use Rattle.std.proofs.Common.{◌≡◌, ◌≤◌, ◌<◌, ◌+◌, ℕ, Bool, true, false, length, Option, Some, None, refl, sym, ap, ◌∙◌, arith, length-append}
-use Rattle.std.proofs.lemmas.Bool.{leb-false}
+use Rattle.std.proofs.Common.{◌≡◌, ◌≤◌, ◌<◌, ◌+◌, ℕ, length, sym, ap, ◌∙◌, arith, length-append}
 use Rattle.tl_types.specs.declared.actor.Actor.{Actor}
 use Rattle.tl_model.specs.declared.command.Command.{Command}
 use Rattle.tl_model.specs.declared.command.Command.TheVariants.{Put, Job, Read, Delete, Mkdir, Rename, Pin, Unpin, List as list, Stat, Free as free}
@@ -9,7 +8,7 @@ use Rattle.tl_model.specs.declared.reply.Reply.{Reply}
 use Rattle.tl_model.specs.declared.reply.Reply.TheVariants.{Made, Fine, Opened, Listed, Stated, Exists, NoSuch, NotFile, NotDir, NotEmpty, TooDeep, IntoItself, TooMany}
 use Rattle.tl_model.specs.History.{HistoryOf, names_of, record_made, records_of, reply_after, with_call}
 use Rattle.tl_model.specs.Namespace.{Names}
-use Rattle.tl_model.specs.Replies.{count_refusal, inputs_refusal, new_refusal, or_else, outputs_refusal, refuse_where, reply_to}
+use Rattle.tl_model.specs.Replies.{reply_to}
 use Rattle.tl_ledger.proofs.Added.{put-below, job-below}
 use Rattle.tl_names.specs.Answers.{Tables, IsNamesOf}
 use Rattle.tl_ledger.specs.Following.{Follows}

@@ -1,14 +1,14 @@
 -- The file that an event leaves without a name.
-use Rattle.std.proofs.Common.{◌≡◌, ℕ, false, List, ◌∷◌, Option, Some, None, if◌then◌else◌, Result, Ok, Err, refl, sym, ap, ◌∙◌, subst}
+use Rattle.std.proofs.Common.{◌≡◌, ℕ, false, List, Option, Some, None, if◌then◌else◌, Ok, Err, refl, ap, ◌∙◌, subst}
 use Rattle.tl_types.specs.declared.actor.Actor.{Actor}
 use Rattle.tl_types.specs.declared.file_id.FileId.{FileId}
 use Rattle.tl_model.specs.declared.command.Command.{Command}
-use Rattle.tl_model.specs.declared.command.Command.TheVariants.{Put, Job, Read, Delete, Mkdir, Rename, Pin, Unpin, List as list, Stat, Free as free}
+use Rattle.tl_model.specs.declared.command.Command.TheVariants.{Delete}
 use Rattle.tl_model.specs.declared.event.Act.{Act}
-use Rattle.tl_model.specs.declared.event.Act.TheVariants.{Call, Served, Shut, Claim, Done, Back, Lose, Free, Drop, Load, Save, Saved, Unsave, Collect}
+use Rattle.tl_model.specs.declared.event.Act.TheVariants.{Call}
 use Rattle.tl_model.specs.declared.event.Event.{Event}
 use Rattle.tl_model.specs.declared.reply.Reply.{Reply}
-use Rattle.tl_model.specs.declared.reply.Reply.TheVariants.{Made, Fine, Opened, Listed, Stated, Exists, NoSuch, NotFile, NotDir, NotEmpty, TooDeep, IntoItself, TooMany}
+use Rattle.tl_model.specs.declared.reply.Reply.TheVariants.{Fine, NotEmpty}
 use Rattle.tl_model.specs.History.{calls_of, names, names_of}
 use Rattle.tl_model.specs.Journal.{calls_in}
 use Rattle.tl_model.specs.Namespace.{Names, Node, PathOf, dir, file, node_at}

@@ -1,4 +1,4 @@
-ghost use Rattle.std.specs.Prelude.{◌≡◌, ◌+◌, ◌-◌, ◌<◌, ◌≤◌, ◌∷◌, [], None, IfOk, OnOk, OnErr};
+ghost use Rattle.std.specs.Prelude.{◌≡◌, ◌-◌, ◌<◌, ◌≤◌, ◌∷◌, [], None, IfOk, OnOk, OnErr};
 ghost use Rattle.std.specs.Prelude.{true, length, reverse, if◌then◌else◌};
 ghost use Rattle.std.specs.Option.{option_copied};
 ghost use Rattle.tl_ledger.specs.Naming.{file_named};
@@ -25,9 +25,9 @@ use tl_names::Names;
 use tl_types::{Actor, FileId, NoMemory, Path, RecordId, WorkerId};
 
 /// The journal, and what is kept in step with it: the names of its history in tables, its records,
-/// which of them are tasks, which is next, which file is saved next, and which record may be let go.
-/// Contracts see the header, the events with the newest first, and how many more may be appended
-/// without asking for memory.
+/// which of them are tasks, which is next, which file is saved next, and which record may be let
+/// go. Contracts see the header, the events with the newest first, and how many more may be
+/// appended without asking for memory.
 #[derive(Drop)]
 pub struct Ledger<T: Ticket> {
     journal: Journal<T>,
@@ -120,8 +120,8 @@ impl<T: Ticket> Ledger<T> {
         is_pinned(&self.names, file)
     }
 
-    /// The record that is next, where all the events are permitted. It changes nothing that contracts
-    /// see.
+    /// The record that is next, where all the events are permitted. It changes nothing that
+    /// contracts see.
     pub fn next(&mut self) -> Option<RecordId>
         ensures next { all_permitted lawful_judge self.old.header self.old.events ≡ true →
             result ≡ next self.old.header.order (without_tickets self.old.events) }
@@ -130,8 +130,8 @@ impl<T: Ticket> Ledger<T> {
         self.parts.next()
     }
 
-    /// The file that is saved next, where all the events are permitted. `None` exactly where none is to
-    /// be saved.
+    /// The file that is saved next, where all the events are permitted. `None` exactly where none
+    /// is to be saved.
     pub fn next_save(&self) -> Option<FileId>
         ensures { all_permitted lawful_judge self.now.header self.now.events ≡ true →
             result ≡ next_save self.now.header (without_tickets self.now.events) }
@@ -139,8 +139,8 @@ impl<T: Ticket> Ledger<T> {
         self.parts.next_save()
     }
 
-    /// The least record that is kept and not needed, where all the events are permitted. `None` exactly
-    /// where there is none. It changes nothing that contracts see.
+    /// The least record that is kept and not needed, where all the events are permitted. `None`
+    /// exactly where there is none. It changes nothing that contracts see.
     pub fn garbage(&mut self) -> Option<RecordId>
         ensures garbage { all_permitted lawful_judge self.old.header self.old.events ≡ true →
             result ≡ garbage (without_tickets self.old.events) }

@@ -13,7 +13,7 @@ ghost use Rattle.tl_model.specs.Needs.{garbage};
 ghost use Rattle.tl_model.specs.Past.{Past, act_with, without_tickets};
 ghost use Rattle.tl_model.specs.Plan.{is_ready, is_task, is_wanted, next};
 ghost use Rattle.tl_model.specs.Residency.{is_available, place};
-ghost use Rattle.tl_lineage.specs.Slots.{record_of, with_removed};
+ghost use Rattle.tl_lineage.specs.Slots.{record_of};
 ghost use Rattle.tl_lineage.specs.declared.slot.Slot.TheVariants.{Kept};
 ghost use Rattle.tl_lineage.specs.Standing.{slots_after};
 ghost use Rattle.tl_ledger.specs.Parts.{HaveRoom, IsAdded, IsAtHand, MayFollow, StandFor};

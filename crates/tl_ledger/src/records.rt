@@ -1,11 +1,10 @@
 //! The record that a command adds where it is accepted.
 
-ghost use Rattle.std.specs.Prelude.{◌≡◌, ◌++◌, ◌∷◌, IfOk, List};
-ghost use Rattle.tl_model.specs.Namespace.{Names as NameList, PathOf};
+ghost use Rattle.std.specs.Prelude.{◌≡◌, IfOk};
+ghost use Rattle.tl_model.specs.Namespace.{Names as NameList};
 ghost use Rattle.tl_names.specs.Answers.{HasFewOutputs};
 ghost use Rattle.tl_names.specs.Standing.{StandsFor};
 ghost use Rattle.tl_ledger.specs.Naming.{file_found, file_named, files_named, record_for};
-ghost use Rattle.tl_ledger.specs.Naming.{with_found};
 
 use std::alloc::{AllocError, Global};
 use tl_model::{Command, Record};

@@ -114,7 +114,8 @@ fn note(ledger: &mut Ledger<FalseTicket>, act: Act<FalseTicket>)
     });
 }
 
-// The answers to a put, to the same put after a loss, and to a delete; and how many events there are.
+// The answers to a put, to the same put after a loss, and to a delete; and how many events there
+// are.
 fn answers(
     rt: &HostRuntime,
     ledger: &mut Ledger<FalseTicket>,
@@ -165,8 +166,8 @@ fn due(ledger: &mut Ledger<FalseTicket>) -> (Option<FileId>, Option<RecordId>)
     (ledger.next_save(), ledger.garbage())
 }
 
-// What is due once a job has run, its file is being saved, it is saved, and its record is let go; and once
-// a second job has run and its file is deleted.
+// What is due once a job has run, its file is being saved, it is saved, and its record is let go;
+// and once a second job has run, and its file is deleted.
 fn dues(
     rt: &HostRuntime,
     ledger: &mut Ledger<FalseTicket>,
@@ -205,8 +206,8 @@ fn what_is_due_keeps_step_with_the_journal(rt: HostRuntime) -> Result<(), Fail> 
     Ok(())
 }
 
-// Whether the first record is a task and can be run, and whether its file is wanted, available, in the one
-// worker's memory and pinned.
+// Whether the first record is a task and can be run, and whether its file is wanted, available, in
+// the one worker's memory and pinned.
 fn facts(ledger: &Ledger<FalseTicket>) -> [bool; 6] {
     [
         ledger.is_task(RecordId(0)),

@@ -1,4 +1,4 @@
-use Rattle.std.proofs.Common.{◌≡◌, sym, subst}
+use Rattle.std.proofs.Common.{sym, subst}
 use Rattle.tl_model.specs.declared.event.Act.{Act}
 use Rattle.tl_model.specs.Past.{act_with}
 use Rattle.tl_prio.specs.Data.{OrderData}

@@ -1,4 +1,4 @@
-use Rattle.std.proofs.Common.{◌≡◌, ◌<◌, ◌^◌, ◌∷◌, ℕ, List, length, sym, ap, ◌∙◌, subst}
+use Rattle.std.proofs.Common.{◌<◌, ◌^◌, ℕ, List, length, sym, ap, ◌∙◌, subst}
 use Rattle.tl_model.specs.declared.event.Event.{Event}
 use Rattle.tl_model.specs.declared.header.Header.{Header}
 use Rattle.tl_model.specs.History.{HistoryOf, calls_of}

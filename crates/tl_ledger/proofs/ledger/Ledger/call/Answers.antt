@@ -1,13 +1,11 @@
-use Rattle.std.proofs.Common.{◌≡◌, ◌<◌, ◌^◌, ◌∷◌, ℕ, true, List, length, Option, Some, sym, ap, ◌∙◌, subst}
+use Rattle.std.proofs.Common.{◌≡◌, ◌<◌, ◌^◌, ◌∷◌, ℕ, true, List, length, Option, sym, ap, ◌∙◌, subst}
 use Rattle.tl_types.specs.declared.file_id.FileId.{FileId}
-use Rattle.tl_types.specs.declared.record_id.RecordId.{RecordId}
 use Rattle.tl_model.specs.declared.event.Act.TheVariants.{Call}
 use Rattle.tl_model.specs.declared.event.Event.{Event}
 use Rattle.tl_model.specs.declared.header.Header.{Header}
 use Rattle.tl_model.specs.declared.record.Record.{Record}
 use Rattle.tl_model.specs.History.{calls_of, names_of, records_of}
 use Rattle.tl_model.specs.Past.{command_with, event_with, without_tickets}
-use Rattle.tl_model.specs.Replies.{reply_to}
 use Rattle.tl_model.specs.Rules.{all_permitted, lawful_judge}
 use Rattle.tl_steps.specs.Steps.{UnnamesOnly}
 use Rattle.tl_lineage.specs.declared.slot.Slot.{Slot}

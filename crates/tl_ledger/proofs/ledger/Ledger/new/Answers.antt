@@ -1,4 +1,4 @@
-use Rattle.std.proofs.Common.{List, [], refl, sym, ◌∙◌, subst, arith, ◌≤◌}
+use Rattle.std.proofs.Common.{List, [], refl, sym, ◌∙◌, subst, arith}
 use Rattle.tl_model.specs.declared.event.Event.{Event}
 use Rattle.tl_model.specs.declared.header.Header.{Header}
 use Rattle.tl_model.specs.History.{calls_of}

@@ -1,4 +1,4 @@
-use Rattle.std.proofs.Common.{◌≡◌, true, None, if◌then◌else◌, ◌∙◌, sym, ap, subst}
+use Rattle.std.proofs.Common.{◌≡◌, true, None, if◌then◌else◌, ◌∙◌, subst}
 use Rattle.std.specs.Option.{option_copied}
 use Rattle.tl_model.specs.History.{record_at}
 use Rattle.tl_model.specs.Journal.{Ledger}

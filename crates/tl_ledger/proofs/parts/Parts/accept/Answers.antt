@@ -1,7 +1,6 @@
-use Rattle.std.proofs.Common.{◌≡◌, ◌∷◌, [], sym, subst, List}
-use Rattle.tl_model.specs.declared.event.Act.{Act}
+use Rattle.std.proofs.Common.{sym, subst, List}
 use Rattle.tl_model.specs.declared.record.Record.{Record}
-use Rattle.tl_model.specs.Past.{Past, act_with, without_tickets}
+use Rattle.tl_model.specs.Past.{act_with, without_tickets}
 use Rattle.tl_plan.specs.Standing as plans
 use Rattle.tl_prio.specs.Standing as orders
 use Rattle.tl_edge.specs.Standing as edges

@@ -1,4 +1,4 @@
-use Rattle.std.proofs.Common.{◌≡◌, ◌<◌, ◌^◌, ◌∷◌, ℕ, sym, subst, List, length}
+use Rattle.std.proofs.Common.{◌<◌, ◌^◌, ℕ, sym, subst, List, length}
 use Rattle.tl_model.specs.declared.record.Record.{Record}
 use Rattle.tl_model.specs.Past.{act_with, event_with, without_tickets}
 use Rattle.tl_plan.specs.Standing as plans
