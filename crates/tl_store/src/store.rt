@@ -1,4 +1,4 @@
-ghost use Rattle.std.specs.Prelude.{◌≡◌, ◌+◌, ◌<◌, ◌^◌, false, length, option_copied, [], ◌∷◌, IfOk, IfErr, OnOk, OnErr};
+ghost use Rattle.std.specs.Prelude.{◌≡◌, ◌+◌, ◌<◌, ◌^◌, ◌==◌, false, length, option_copied, [], ◌∷◌, IfOk, IfErr, OnOk, OnErr};
 ghost use Rattle.std.specs.Map.{values_of};
 ghost use Rattle.tl_store.specs.Contents.{block_size, size_of_block, contents, block_of, has, without, touched, used_by, victim};
 ghost use Rattle.tl_store.specs.Kept.{EachKept};
@@ -93,6 +93,20 @@ impl Store {
     {
         self.entries.clear();
         self.used = 0;
+    }
+
+    /// How many blocks there are.
+    pub fn len(&self) -> usize
+        ensures { result ≡ length self.now.blocks }
+    {
+        self.entries.len()
+    }
+
+    /// Whether there are no blocks.
+    pub fn is_empty(&self) -> bool
+        ensures { result ≡ (length self.now.blocks == 0) }
+    {
+        self.entries.is_empty()
     }
 
     /// How many bytes the blocks have together.
