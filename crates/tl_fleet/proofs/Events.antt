@@ -21,7 +21,7 @@ use Rattle.tl_fleet.specs.Events.{after_load, after_served, after_free, after_dr
 use Rattle.tl_fleet.specs.declared.worker.Worker.{Worker}
 use Rattle.tl_fleet.proofs.Steps.{brought, used_at, gone, gone_from, cleared, IsNewest, brought_here, brought_there, touched_here, gone_here, gone_from_here, gone_from_there, cleared_here, cleared_there}
 
-length_changed : (n : ℕ) (change : Worker → Worker) (ws : Workers) → length (changed_at n change ws) ≡ length ws
+pub length_changed : (n : ℕ) (change : Worker → Worker) (ws : Workers) → length (changed_at n change ws) ≡ length ws
 length_changed zero change [] = refl
 length_changed (suc n) change [] = refl
 length_changed zero change (w ∷ ws) = refl

@@ -4,7 +4,7 @@ use Rattle.std.specs.List.{AllByRecursion, list_any}
 use Rattle.std.specs.Option.{option_map, option_map_or}
 use Rattle.std.proofs.lemmas.Bool.{or_parts}
 use Rattle.std.proofs.lemmas.Bool.Decides.{Decides-eqb}
-use Rattle.std.proofs.lemmas.Option.{none-some, same_Some, some_pair_parts}
+use Rattle.std.proofs.lemmas.Option.{none-some, some_pair_parts}
 use Rattle.tl_types.specs.Block.{FileOutcome}
 use Rattle.tl_types.specs.Same.{file_same}
 use Rattle.tl_types.specs.declared.file_id.FileId.{FileId}
@@ -13,8 +13,9 @@ use Rattle.tl_model.specs.Residency.{is_at}
 use Rattle.tl_store.specs.Contents.{Blocks, block_of, touched, without}
 use Rattle.tl_fleet.specs.Events.{among, files_of, installed_each, touched_each}
 use Rattle.tl_fleet.specs.Order.{Ascends}
-use Rattle.tl_fleet.specs.Workers.{IsOnce, Workers, all_touched, all_without, changed_at, emptied, found, found_from, has_file, holders, installed, is_resident, lost, put_front, with_blocks, worker_found}
+use Rattle.tl_fleet.specs.Workers.{IsOnce, Workers, all_touched, all_without, changed_at, copies, copies_in, emptied, found, found_from, has_file, installed, is_resident, lost, put_front, with_blocks, worker_found}
 use Rattle.tl_fleet.specs.declared.worker.Worker.{Worker}
+use Rattle.tl_fleet.proofs.Copies.{block_is, copies_some}
 use Rattle.tl_fleet.proofs.Files.{Distinct, ascends_distinct, either, has_among, same_is, same_turned}
 use Rattle.tl_fleet.proofs.Places.{found_some}
 use Rattle.tl_fleet.proofs.Steps.{number, off_worker}
@@ -24,15 +25,6 @@ use Rattle.tl_fleet.proofs.Steps.{number, off_worker}
 none_is : (o : Option FileOutcome) → is_some o ≡ false → o ≡ None
 none_is None h = refl
 none_is (Some b) h = absurd (cc)
-
-block_is : (g : FileId) (bs : Blocks) (b : FileOutcome) → block_of g bs ≡ Some b → b.file ≡ g
-block_is g [] b e = absurd (none-some b e)
-block_is g (c ∷ bs) b e = elim (either (file_same g c.file)) [
-  | inl t ↦
-      let same : c ≡ b = same_Some c b (ap (λ x. cond x (Some c) (block_of g bs)) (sym t) ∙ e) in
-      ap (λ (x : FileOutcome). x.file) (sym same) ∙ sym (same_is g c.file t)
-  | inr t ↦ block_is g bs b (ap (λ x. cond x (Some c) (block_of g bs)) (sym t) ∙ e)
-]
 
 block_cond : (g : FileId) (t : Bool) (b : FileOutcome) (bs : Blocks) → block_of g (cond t (b ∷ bs) bs) ≡ cond t (cond (file_same g b.file) (Some b) (block_of g bs)) (block_of g bs)
 block_cond g true b bs = refl
@@ -133,13 +125,14 @@ freed g f ws = elim (either (file_same g f)) [
 
 -- ---- a file goes from one worker
 
-none_step : (n : ℕ) (o : Option FileOutcome) (later : Found) (count : ℕ) → cond (is_some o) (1 + count) count ≡ 0 → (count ≡ 0 → later ≡ None) → here_or n o later ≡ None
-none_step n None later count e rest = rest e
-none_step n (Some b) later count e rest = absurd (omega arith)
+none_step : (n : ℕ) (o : Option FileOutcome) (later : Found) (own count : ℕ) → (is_some o ≡ true → 1 ≤ own) → own + count ≡ 0 → (count ≡ 0 → later ≡ None) → here_or n o later ≡ None
+none_step n None later own count here e rest = rest (omega arith)
+none_step n (Some b) later own count here e rest = let some : 1 ≤ own = here refl in absurd (omega arith)
 
-none_found : (g : FileId) (n : ℕ) (ws : Workers) → holders g ws ≡ 0 → found_from n g ws ≡ None
+none_found : (g : FileId) (n : ℕ) (ws : Workers) → copies g ws ≡ 0 → found_from n g ws ≡ None
 none_found g n [] e = refl
-none_found g n (w ∷ ws) e = none_step n (block_on g w) (found_from (n + 1) g ws) (holders g ws) e (none_found g (n + 1) ws)
+none_found g n (w ∷ ws) e =
+    none_step n (block_on g w) (found_from (n + 1) g ws) (copies_in g w.store.blocks) (copies g ws) (copies_some g w.store.blocks) e (none_found g (n + 1) ws)
 
 later_step : (v : WorkerId) (n : ℕ) (o : Option FileOutcome) (later : Found) → v.0 < n → found_at v later ≡ false → found_at v (here_or n o later) ≡ false
 later_step v n None later l e = e
@@ -150,26 +143,29 @@ not_earlier : (g : FileId) (v : WorkerId) (n : ℕ) (ws : Workers) → v.0 < n �
 not_earlier g v n [] l = refl
 not_earlier g v n (w ∷ ws) l = later_step v n (block_on g w) (found_from (n + 1) g ws) l (not_earlier g v (n + 1) ws (omega arith))
 
-taken_here : (v : WorkerId) (n : ℕ) (o : Option FileOutcome) (later : Found) (count : ℕ) → cond (is_some o) (1 + count) count ≤ 1 → (count ≡ 0 → later ≡ None) → found_at v later ≡ false → v.0 ≡ n →
-    later ≡ (if found_at v (here_or n o later) then None else here_or n o later)
-taken_here v n None later count once none off at = ap (λ x. if x then None else later) (sym off)
-taken_here v n (Some b) later count once none off at = none (omega arith) ∙ ap (λ x. if x then None else Some (number n, b)) (sym ((Decides-eqb v.0 n).1 at))
+taken_here : (v : WorkerId) (n : ℕ) (o : Option FileOutcome) (later : Found) (own count : ℕ) → (is_some o ≡ true → 1 ≤ own) → own + count ≤ 1 → (count ≡ 0 → later ≡ None) → found_at v later ≡ false →
+    v.0 ≡ n → later ≡ (if found_at v (here_or n o later) then None else here_or n o later)
+taken_here v n None later own count here once none off at = ap (λ x. if x then None else later) (sym off)
+taken_here v n (Some b) later own count here once none off at =
+    let some : 1 ≤ own = here refl in
+    none (omega arith) ∙ ap (λ x. if x then None else Some (number n, b)) (sym ((Decides-eqb v.0 n).1 at))
 
-taken_there : (v : WorkerId) (n : ℕ) (o : Option FileOutcome) (later now : Found) (count : ℕ) → cond (is_some o) (1 + count) count ≤ 1 → (count ≤ 1 → now ≡ (if found_at v later then None else later)) →
+taken_there : (v : WorkerId) (n : ℕ) (o : Option FileOutcome) (later now : Found) → now ≡ (if found_at v later then None else later) →
     (v.0 ≡ n → ⊥) → here_or n o now ≡ (if found_at v (here_or n o later) then None else here_or n o later)
-taken_there v n None later now count once so off = so once
-taken_there v n (Some b) later now count once so off = ap (λ x. if x then None else Some (number n, b)) (sym (off_worker v.0 n off))
+taken_there v n None later now so off = so
+taken_there v n (Some b) later now so off = ap (λ x. if x then None else Some (number n, b)) (sym (off_worker v.0 n off))
 
-taken : (g : FileId) (change : Worker → Worker) → TakesBlock g change → (v : WorkerId) (n k : ℕ) (ws : Workers) → holders g ws ≤ 1 → v.0 ≡ n + k →
+taken : (g : FileId) (change : Worker → Worker) → TakesBlock g change → (v : WorkerId) (n k : ℕ) (ws : Workers) → copies g ws ≤ 1 → v.0 ≡ n + k →
     found_from n g (changed_at k change ws) ≡ (if found_at v (found_from n g ws) then None else found_from n g ws)
 taken g change none v n zero [] once at = refl
 taken g change none v n (suc k) [] once at = refl
 taken g change none v n zero (w ∷ ws) once at =
     ap (λ o. here_or n o (found_from (n + 1) g ws)) (none w)
-    ∙ taken_here v n (block_on g w) (found_from (n + 1) g ws) (holders g ws) once (none_found g (n + 1) ws) (not_earlier g v (n + 1) ws (omega arith)) (omega arith)
+    ∙ taken_here v n (block_on g w) (found_from (n + 1) g ws) (copies_in g w.store.blocks) (copies g ws) (copies_some g w.store.blocks) once (none_found g (n + 1) ws)
+    (not_earlier g v (n + 1) ws (omega arith)) (omega arith)
 taken g change none v n (suc k) (w ∷ ws) once at =
-    taken_there v n (block_on g w) (found_from (n + 1) g ws) (found_from (n + 1) g (changed_at k change ws)) (holders g ws) once
-    (λ rest. taken g change none v (n + 1) k ws rest (omega arith)) (λ same. omega arith)
+    taken_there v n (block_on g w) (found_from (n + 1) g ws) (found_from (n + 1) g (changed_at k change ws))
+    (taken g change none v (n + 1) k ws (omega arith) (omega arith)) (λ same. omega arith)
 
 pub lost_there : (g : FileId) (w : WorkerId) (ws : Workers) → IsOnce ws → found g (lost w ws) ≡ (if is_at w (option_map worker_found (found g ws)) then None else found g ws)
 lost_there g w ws once = taken g emptied (λ x. refl) w 0 w.0 ws (once g) (omega arith)

@@ -37,11 +37,11 @@ least_of_same recency test other (Some m) same h = (sym (same m) ∙ h.0, λ g t
 
 -- ---- the last of a list in order that is not excepted
 
-abbrev or_else : Option FileId → Option FileId → Option FileId
+abbrev pub or_else : Option FileId → Option FileId → Option FileId
 or_else None other = other
 or_else (Some f) other = Some f
 
-abbrev unless : Bool → FileId → Option FileId
+abbrev pub unless : Bool → FileId → Option FileId
 unless b f = cond b None (Some f)
 
 abbrev pub last_of : (FileId → Bool) → List FileId → Option FileId

@@ -1,7 +1,9 @@
 pub mod Changes
+pub mod Copies
 pub mod Events
 pub mod Files
 pub mod Found
+pub mod Held
 pub mod Incarnations
 pub mod Least
 pub mod Once
@@ -9,6 +11,7 @@ pub mod Pasts
 pub mod Places
 pub mod Settles
 pub mod Several
+pub mod Single
 pub mod Sizes
 pub mod Sooner
 pub mod Sorted

@@ -30,7 +30,7 @@ pub files_in_order : (recency : FileId → ℕ) (blocks : Blocks) → InOrder re
 files_in_order recency [] h = tt
 files_in_order recency (b ∷ bs) h = (each_sooner recency b.file bs h.0, files_in_order recency bs h.1)
 
-order_distinct : (recency : FileId → ℕ) (fs : List FileId) → FilesInOrder recency fs → Distinct fs
+pub order_distinct : (recency : FileId → ℕ) (fs : List FileId) → FilesInOrder recency fs → Distinct fs
 order_distinct recency [] h = tt
 order_distinct recency (f ∷ fs) h =
     (distinct_all (λ f g. IsSooner recency g f) (λ f s. sooner_asym recency f f s s) f fs h.0, order_distinct recency fs h.1)

@@ -6,7 +6,7 @@ use Rattle.std.specs.Option.{option_map_or}
 use Rattle.tl_types.specs.Block.{FileOutcome}
 use Rattle.tl_types.specs.declared.file_id.FileId.{FileId}
 use Rattle.tl_types.specs.declared.worker_id.WorkerId.{WorkerId}
-use Rattle.tl_store.specs.Contents.{Blocks, contents, has, block_of, without, touched, used_by, victim}
+use Rattle.tl_store.specs.Contents.{Blocks, contents, has, is_of, block_of, without, touched, used_by, victim}
 use Rattle.tl_fleet.specs.declared.worker.Worker.{Worker}
 
 abbrev pub Workers : Type 0
@@ -97,16 +97,26 @@ abbrev pub dropped : Option (WorkerId × FileId) → Workers → Workers
 dropped None workers = workers
 dropped (Some drop) workers = changed_at drop.0.0 (with_blocks (without drop.1)) workers
 
--- on how many workers a file is
-abbrev pub holders : FileId → Workers → ℕ
-holders f [] = 0
-holders f (worker ∷ workers) = if has_file f worker then 1 + holders f workers else holders f workers
+-- how many of these blocks are of a file
+abbrev pub copies_in : FileId → Blocks → ℕ
+copies_in f [] = 0
+copies_in f (block ∷ blocks) = if is_of f block then 1 + copies_in f blocks else copies_in f blocks
 
--- each file is on one worker at most
+-- how many blocks of a file are in the workers' memories together
+abbrev pub copies : FileId → Workers → ℕ
+copies f [] = 0
+copies f (worker ∷ workers) = copies_in f worker.store.blocks + copies f workers
+
+-- each file is in memory once at most
 abbrev pub IsOnce : Workers → Type 0
-IsOnce workers = (f : FileId) → holders f workers ≤ 1
+IsOnce workers = (f : FileId) → copies f workers ≤ 1
 
 -- what is true of every fleet: numbers of workers are bytes
 pub record IsFleet (workers : Workers) : Type 0 where
   pub few : length workers < 256
   pub once : IsOnce workers
+
+-- how many blocks are in the workers' memories together
+abbrev pub held_count : Workers → ℕ
+held_count [] = 0
+held_count (worker ∷ workers) = length worker.store.blocks + held_count workers

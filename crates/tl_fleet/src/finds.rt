@@ -1,7 +1,7 @@
 //! What is found of a file after each change of the workers' memory, and how often each worker was
 //! lost by then.
 
-ghost use Rattle.std.specs.Prelude.{◌≡◌, ◌+◌, ◌<◌, ◌&&◌, false, true, List, None, Some, if◌then◌else◌, is_some, length, slice_get};
+ghost use Rattle.std.specs.Prelude.{◌≡◌, ◌+◌, ◌<◌, ◌&&◌, Bool, false, true, List, None, Some, if◌then◌else◌, is_some, length, slice_get};
 ghost use Rattle.std.specs.List.{AllByRecursion};
 ghost use Rattle.std.specs.Option.{option_map, option_map_or};
 ghost use Rattle.tl_types.specs.Block.{FileOutcome};
@@ -15,7 +15,7 @@ ghost use Rattle.tl_model.specs.Residency.{is_at, place};
 ghost use Rattle.tl_store.specs.Contents.{Blocks, block_of, without};
 ghost use Rattle.tl_fleet.specs.Events.{files_of, installed_each, touched_each};
 ghost use Rattle.tl_fleet.specs.Order.{Ascends, StandsInOrder};
-ghost use Rattle.tl_fleet.specs.Workers.{IsOnce, Workers, all_touched, all_without, changed_at, found, incarnation_of, installed, is_resident, lost, with_blocks, worker_found};
+ghost use Rattle.tl_fleet.specs.Workers.{IsOnce, Workers, all_touched, all_without, changed_at, first_to_drop, found, incarnation_of, installed, is_resident, lost, with_blocks, worker_found};
 
 /// A block that is brought to a worker is found there, and each other file is found as before.
 pub fn a_brought_block_is_found()
@@ -62,6 +62,23 @@ pub fn a_dropped_file_is_found_no_more()
 pub fn it_is_of_the_file()
     ensures file { (g : FileId) (v : WorkerId) (b : FileOutcome) (workers : Workers) → found g workers ≡ Some (v, b) → b.file ≡ g }
     ensures worker { (g : FileId) (v : WorkerId) (b : FileOutcome) (workers : Workers) → found g workers ≡ Some (v, b) → v.0 < length workers }
+{}
+
+/// Where each file is in memory once at most, the file that must be dropped is found on the worker that
+/// must drop it.
+pub fn what_must_go_is_found()
+    ensures { (excepted : FileId → Bool) (drop : WorkerId × FileId) (workers : Workers) →
+        first_to_drop excepted workers ≡ Some drop → IsOnce workers →
+        (block : FileOutcome) × (found drop.1 workers ≡ Some (drop.0, block)) }
+{}
+
+/// A fleet that stands in order has each file where the past has it, and once at most.
+pub fn it_is_where_the_past_has_it()
+    ensures place { (sizes : Sizes) (header : Header) (past : Past) (workers : Workers) →
+        StandsInOrder sizes header past workers →
+        (f : FileId) → option_map worker_found (found f workers) ≡ place past f }
+    ensures once { (sizes : Sizes) (header : Header) (past : Past) (workers : Workers) →
+        StandsInOrder sizes header past workers → IsOnce workers }
 {}
 
 /// A fleet that stands in order by some sizes does so by all that give each file in memory the same.

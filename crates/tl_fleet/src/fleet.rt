@@ -1,7 +1,7 @@
 ghost use Rattle.std.specs.Prelude.{◌≡◌, ◌+◌, ◌<◌, ◌≤◌, ◌^◌, ◌-◌, ◌==◌, ◌&&◌, true, false, is_none, [], Some, length, slice_get, is_some, IfSome, IfOk, IfErr, OnOk, OnErr};
 ghost use Rattle.std.specs.List.{AllByRecursion};
 ghost use Rattle.std.specs.Option.{option_map};
-ghost use Rattle.tl_fleet.specs.Workers.{IsOnce, new_workers, is_resident, found, found_block, worker_found, installed, all_touched, all_without, lost, first_to_drop, dropped, incarnation_of, changed_at, with_blocks, put_front, emptied, to_drop};
+ghost use Rattle.tl_fleet.specs.Workers.{IsOnce, new_workers, is_resident, found, found_block, worker_found, installed, all_touched, all_without, lost, first_to_drop, dropped, held_count, incarnation_of, changed_at, with_blocks, put_front, emptied, to_drop};
 ghost use Rattle.tl_fleet.specs.Order.{Ascends, IsNumbered, IsOfFile, ExceptsBy, StandsInOrder, due, sight_of};
 ghost use Rattle.tl_fleet.specs.Events.{after_load, after_done, after_served, after_free, after_drop, after_loss, after_claim, among, files_of, installed_each, touched_each};
 ghost use Rattle.tl_types.specs.declared.actor.Actor.{Actor as By};
@@ -70,6 +70,14 @@ impl Fleet {
         ensures { result ≡ (length self.now == 0) }
     {
         self.workers.is_empty()
+    }
+
+    /// How many blocks are in the workers' memories together. Each is of another file.
+    pub fn held(&self) -> u128
+        ensures held { result ≡ held_count self.now }
+        ensures once { IsOnce self.now }
+    {
+        held_in(&self.workers)
     }
 
     /// Puts a block of a file that is on no worker in front at `w`, as a load brings it; its size is that
@@ -264,6 +272,18 @@ fn free_all(workers: &mut [Worker], f: FileId)
     for worker in workers.iter_mut() {
         worker.store.remove(f);
     }
+}
+
+// How many blocks are in the workers' memories together.
+fn held_in(workers: &[Worker]) -> u128
+    requires few { length workers.now < 256 }
+    ensures { result ≡ held_count workers.now }
+{
+    let mut held = 0;
+    for worker in workers {
+        held += worker.store.len() as u128;
+    }
+    held
 }
 
 // Whether a worker has a file.
