@@ -64,8 +64,8 @@ pub fn it_is_of_the_file()
     ensures worker { (g : FileId) (v : WorkerId) (b : FileOutcome) (workers : Workers) → found g workers ≡ Some (v, b) → v.0 < length workers }
 {}
 
-/// Where each file is in memory once at most, the file that must be dropped is found on the worker that
-/// must drop it.
+/// Where each file is in memory once at most, the file that must be dropped is found on the worker
+/// that must drop it.
 pub fn what_must_go_is_found()
     ensures { (excepted : FileId → Bool) (drop : WorkerId × FileId) (workers : Workers) →
         first_to_drop excepted workers ≡ Some drop → IsOnce workers →

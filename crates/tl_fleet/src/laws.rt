@@ -1,5 +1,5 @@
-//! The events that concern several files in memory, or none, keep the order of the blocks. Each change
-//! counts what it moves.
+//! The events that concern several files in memory, or none, keep the order of the blocks. Each
+//! change counts what it moves.
 
 ghost use Rattle.std.specs.Prelude.{◌≡◌, ◌+◌, ◌<◌, ◌≤◌, ◌&&◌, ◌∷◌, ℕ, Bool, List, None, Some, false, true, is_none, length};
 ghost use Rattle.std.specs.List.{AllByRecursion};
@@ -45,15 +45,15 @@ pub fn other_events_keep_order()
         StandsInOrder before header past workers → StandsInOrder sizes header (event ∷ past) workers }
 {}
 
-/// How many blocks are held after each change of the workers' memory. A block that comes is one more.
-/// Where each file is in memory once at most, a use changes nothing, and a drop takes one. A free takes
-/// as many as there are of the file.
+/// How many blocks are held after each change of the workers' memory. A block that comes is one
+/// more. Where each file is in memory once at most, a use changes nothing, and a drop takes one. A
+/// free takes as many as there are of the file.
 pub fn a_change_counts_what_it_moves()
     ensures empty { (count capacity : ℕ) → held_count (new_workers count capacity) ≡ 0 }
-    ensures installed { (w : WorkerId) (block : FileOutcome) (workers : Workers) → w.0 < length workers →
-        held_count (installed w block workers) ≡ held_count workers + 1 }
-    ensures each { (w : WorkerId) (blocks : Blocks) (workers : Workers) → w.0 < length workers →
-        held_count (installed_each w blocks workers) ≡ held_count workers + length blocks }
+    ensures installed { (w : WorkerId) (block : FileOutcome) (workers : Workers) →
+        w.0 < length workers → held_count (installed w block workers) ≡ held_count workers + 1 }
+    ensures each { (w : WorkerId) (blocks : Blocks) (workers : Workers) →
+        w.0 < length workers → held_count (installed_each w blocks workers) ≡ held_count workers + length blocks }
     ensures touched { (f : FileId) (workers : Workers) → IsOnce workers →
         held_count (all_touched f workers) ≡ held_count workers }
     ensures each_touched { (files : List FileId) (workers : Workers) → IsOnce workers →
