@@ -3,7 +3,7 @@ ghost use Rattle.std.specs.Prelude.{true, length, reverse, if◌then◌else◌};
 ghost use Rattle.std.specs.Option.{option_copied};
 ghost use Rattle.tl_ledger.specs.Naming.{file_named};
 ghost use Rattle.tl_model.specs.Checkpoints.{next_save};
-ghost use Rattle.tl_model.specs.History.{calls_of, is_pinned, names_of, record_at, reply_after};
+ghost use Rattle.tl_model.specs.History.{calls_of, is_pinned, names_of, record_at, records, reply_after};
 ghost use Rattle.tl_model.specs.Journal.{call_count, calls_in};
 ghost use Rattle.tl_model.specs.Needs.{garbage};
 ghost use Rattle.tl_model.specs.Past.{without_tickets};
@@ -104,6 +104,13 @@ impl<T: Ticket> Ledger<T> {
         ensures { reverse result.now ≡ self.now.events }
     {
         self.journal.events()
+    }
+
+    /// The number of the next record: how many were accepted.
+    pub fn accepted(&self) -> RecordId
+        ensures { result.0 ≡ length (records (without_tickets self.now.events)) }
+    {
+        self.next
     }
 
     /// The file that a path names after this history.
