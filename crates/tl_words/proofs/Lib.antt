@@ -1,0 +1,7 @@
+mod Digits
+mod FlagWords
+mod Longs
+mod NumberWords
+mod Requests
+mod Results
+mod Walking
