@@ -58,6 +58,10 @@ Spells words (Generate count seed run) = (1 ≤ count) × (count ≤ 100000) × 
 Spells words Check = words ≡ codes "check" ∷ []
 Spells words Upgrade = words ≡ codes "upgrade" ∷ []
 
+-- the line that is printed where the words spell no request
+abbrev pub refusal_line : List ℕ
+refusal_line = codes "words" ++ 0x0A ∷ []
+
 -- what is said is just what the words spell
 abbrev pub IsExact : List Word → Option Request → Type 0
 IsExact words said = (w : Request) → (said ≡ Some w) ↔ Spells words w

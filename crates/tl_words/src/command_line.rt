@@ -6,7 +6,7 @@ ghost use Rattle.std.specs.Fmt.{decimal};
 ghost use Rattle.std.specs.List.{list_any};
 ghost use Rattle.std.specs.Str.{bytes_eq};
 ghost use Rattle.tl_words.specs.Parts.{AsksFor, text_of};
-ghost use Rattle.tl_words.specs.Spells.{IsExact, Spells, has_dashes};
+ghost use Rattle.tl_words.specs.Spells.{IsExact, Spells, has_dashes, refusal_line};
 
 use crate::flags::{Flags, flags_of};
 use crate::generator::{Numbers, numbers_of};
@@ -44,6 +44,13 @@ pub fn words(alloc: Global, args: &[String]) -> Result<Option<Request>, NoMemory
         "upgrade" => Ok(by_itself(args, Request::Upgrade)),
         _ => Ok(None),
     }
+}
+
+/// The line that is printed where the words are none that the program knows.
+pub fn refusal() -> &'static str
+    ensures { result.now ≡ refusal_line }
+{
+    "words\n"
 }
 
 // Whether some word is two hyphens alone.

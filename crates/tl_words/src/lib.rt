@@ -10,5 +10,5 @@ mod request;
 #[cfg(test)]
 mod tests;
 
-pub use command_line::words;
+pub use command_line::{refusal, words};
 pub use request::Request;
