@@ -2,7 +2,7 @@
 #![tactic(auto)]
 
 mod line;
-mod print;
+pub mod print;
 mod tally;
 
 pub use line::transcript_line;

@@ -14,8 +14,8 @@ use tl_model::{Answer, ClientError, Counted, Damage, Entry, Form, Reply, Status}
 use tl_text::{print_digest, print_file, print_number, print_quoted};
 use tl_types::{Block, Digest, FileId, NoMemory, Outcome};
 
-// Appends the bytes.
-pub(crate) fn word(out: &mut Vec<u8>, bytes: &[u8]) -> Result<(), NoMemory>
+/// Appends the bytes.
+pub fn word(out: &mut Vec<u8>, bytes: &[u8]) -> Result<(), NoMemory>
     ensures ok { OnOk result (out.new.items ≡ out.old.items ++ bytes.now) }
     ensures err { OnErr result (take (length out.old.items) out.new.items ≡ out.old.items) }
 {
@@ -23,8 +23,8 @@ pub(crate) fn word(out: &mut Vec<u8>, bytes: &[u8]) -> Result<(), NoMemory>
     Ok(())
 }
 
-// Appends a space and the number.
-pub(crate) fn then_number(out: &mut Vec<u8>, n: u64) -> Result<(), NoMemory>
+/// Appends a space and the number in decimal.
+pub fn then_number(out: &mut Vec<u8>, n: u64) -> Result<(), NoMemory>
     ensures ok { OnOk result (out.new.items ≡ out.old.items ++ 0x20 ∷ decimal n) }
     ensures err { OnErr result (take (length out.old.items) out.new.items ≡ out.old.items) }
 {
@@ -32,8 +32,8 @@ pub(crate) fn then_number(out: &mut Vec<u8>, n: u64) -> Result<(), NoMemory>
     print_number(out, n)
 }
 
-// Appends a word, a space and the number.
-fn word_number(out: &mut Vec<u8>, bytes: &[u8], n: u64) -> Result<(), NoMemory>
+/// Appends a word, a space and the number in decimal.
+pub fn word_number(out: &mut Vec<u8>, bytes: &[u8], n: u64) -> Result<(), NoMemory>
     ensures ok { OnOk result (out.new.items ≡ out.old.items ++ (bytes.now ++ 0x20 ∷ decimal n)) }
     ensures err { OnErr result (take (length out.old.items) out.new.items ≡ out.old.items) }
 {
@@ -41,8 +41,8 @@ fn word_number(out: &mut Vec<u8>, bytes: &[u8], n: u64) -> Result<(), NoMemory>
     then_number(out, n)
 }
 
-// Appends a word, a space and the file.
-fn word_file(out: &mut Vec<u8>, bytes: &[u8], file: FileId) -> Result<(), NoMemory>
+/// Appends a word, a space and the file.
+pub fn word_file(out: &mut Vec<u8>, bytes: &[u8], file: FileId) -> Result<(), NoMemory>
     ensures ok { OnOk result (out.new.items ≡ out.old.items ++ (bytes.now ++ 0x20 ∷ file_text file)) }
     ensures err { OnErr result (take (length out.old.items) out.new.items ≡ out.old.items) }
 {
@@ -129,8 +129,8 @@ fn list(out: &mut Vec<u8>, entries: &[Entry]) -> Result<(), NoMemory>
     then_entries(out, entries)
 }
 
-// Appends the words of the reply.
-fn reply(out: &mut Vec<u8>, said: &Reply) -> Result<(), NoMemory>
+/// Appends the words of the reply.
+pub fn reply(out: &mut Vec<u8>, said: &Reply) -> Result<(), NoMemory>
     ensures ok { OnOk result (out.new.items ≡ out.old.items ++ reply_words said.now) }
     ensures err { OnErr result (take (length out.old.items) out.new.items ≡ out.old.items) }
 {

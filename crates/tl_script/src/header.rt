@@ -11,24 +11,24 @@ use tl_model::{Header, OrderRule, Version};
 use tl_text::read_number;
 
 /// The greatest number of workers.
-const WORKER_LIMIT: u64 = 8;
+pub const WORKER_LIMIT: u64 = 8;
 
 /// The greatest capacity of a worker, in bytes.
-const CAPACITY_LIMIT: u64 = 268_435_456;
+pub const CAPACITY_LIMIT: u64 = 268_435_456;
 
 /// The greatest number of reads that a header may ask of a hot file.
-const HOT_LIMIT: u64 = 4_294_967_295;
+pub const HOT_LIMIT: u64 = 4_294_967_295;
 
-// What follows `prefix`, where the text begins with it.
-fn after<'a>(text: &'a [u8], prefix: &[u8]) -> Option<&'a [u8]>
+/// What follows `prefix`, where the text begins with it.
+pub fn after<'a>(text: &'a [u8], prefix: &[u8]) -> Option<&'a [u8]>
     ensures found { IfSome result (λ rest. text.now ≡ prefix.now ++ rest.now) }
     ensures none { IfNone result ((rest : List ℕ) → text.now ≢ prefix.now ++ rest) }
 {
     text.strip_prefix(prefix)
 }
 
-// What stands behind the words and a number from 1 to the limit, and the number.
-fn number_after<'a>(text: &'a [u8], words: &[u8], limit: u64) -> Option<(u64, &'a [u8])>
+/// What stands behind the words and a number from 1 to the limit, and the number.
+pub fn number_after<'a>(text: &'a [u8], words: &[u8], limit: u64) -> Option<(u64, &'a [u8])>
     ensures found { IfSome result (λ r. text.now ≡ words.now ++ (decimal r.0 ++ r.1.now)) }
     ensures within { IfSome result (λ r. (1 ≤ r.0) × (r.0 ≤ limit)) }
     ensures ended { IfSome result (λ r. BeginsWithNoDigit r.1.now) }
@@ -71,8 +71,8 @@ fn version_said(text: &[u8]) -> Option<(Version, &[u8])>
     Some((Version::Two, rest))
 }
 
-// The words behind the numbers.
-fn order_text(version: Version, order: OrderRule) -> &'static [u8]
+/// The words behind the numbers of a header.
+pub fn order_text(version: Version, order: OrderRule) -> &'static [u8]
     ensures { result.now ≡ order_text version order }
 {
     match (version, order) {
@@ -83,8 +83,8 @@ fn order_text(version: Version, order: OrderRule) -> &'static [u8]
     }
 }
 
-// The order whose words the text is, in this version.
-fn order_said(text: &[u8], version: Version) -> Option<OrderRule>
+/// The order whose words the text is, in this version.
+pub fn order_said(text: &[u8], version: Version) -> Option<OrderRule>
     ensures found { IfSome result (λ order. text.now ≡ order_text version order) }
     ensures none { IfNone result ((order : OrderRule) → text.now ≢ order_text version order) }
 {

@@ -22,8 +22,8 @@ const LINE_FEED: u8 = b'\n';
 /// The greatest length of a line, in bytes.
 const LINE_LIMIT: usize = 65_536;
 
-// The text before the first line feed and the text behind it.
-fn around_feed(text: &[u8]) -> Option<(&[u8], &[u8])>
+/// The text before the first line feed and the text behind it; `None` where there is no line feed.
+pub fn around_feed(text: &[u8]) -> Option<(&[u8], &[u8])>
     ensures found { IfSome result (λ parts. (text.now ≡ parts.0.now ++ 10 ∷ parts.1.now) × All (IsOther 10) parts.0.now) }
     ensures none { IfNone result (All (IsOther 10) text.now) }
 {

@@ -37,7 +37,7 @@ fn ends_token(text: &[u8]) -> bool
 }
 
 /// What stands behind the space.
-pub(crate) fn front_of(text: &[u8]) -> Option<&[u8]>
+pub fn front_of(text: &[u8]) -> Option<&[u8]>
     requires { EndsToken text.now }
     ensures found { IfSome result (λ front. text.now ≡ 0x20 ∷ front.now) }
     ensures none { IfNone result (text.now ≡ []) }
@@ -48,8 +48,8 @@ pub(crate) fn front_of(text: &[u8]) -> Option<&[u8]>
     }
 }
 
-// The bytes up to the first space, and the rest.
-fn token_of(front: &[u8]) -> (&[u8], &[u8])
+/// The bytes up to the first space, and the rest.
+pub fn token_of(front: &[u8]) -> (&[u8], &[u8])
     ensures cut { front.now ≡ result.0.now ++ result.1.now }
     ensures token { All (IsOther 32) result.0.now }
     ensures ended { EndsToken result.1.now }
@@ -79,8 +79,8 @@ pub(crate) fn after_mark<'a>(text: &'a [u8], word: Mark) -> Option<&'a [u8]>
     if ends_token(rest) { Some(rest) } else { None }
 }
 
-/// The number, at least `low` and below `below`, that stands first.
-fn number_at(front: &[u8], low: u64, below: u64) -> Option<(u64, &[u8])>
+/// The number, at least `low` and below `below`, that stands first, up to a space or the end.
+pub fn number_at(front: &[u8], low: u64, below: u64) -> Option<(u64, &[u8])>
     ensures found { IfSome result (λ r. Stands front.now (a_number r.0) r.1.now) }
     ensures within { IfSome result (λ r. (low ≤ r.0) × (r.0 < below)) }
     ensures none { IfNone result ((n : ℕ) (rest : List ℕ) → low ≤ n → n < below → ¬ Stands front.now (a_number n) rest) }

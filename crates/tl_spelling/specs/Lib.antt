@@ -1,0 +1,4 @@
+pub mod Commands
+pub mod Events
+pub mod Journals
+pub mod Shown
