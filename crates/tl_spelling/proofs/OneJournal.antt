@@ -23,7 +23,7 @@ use Rattle.tl_spelling.proofs.OneEvent.{one_event}
 
 -- ---- the header
 
-header_parts : (h : Header) → header_text h ≡ codes "journal " ++ (version_word h.version ++ behind_version h)
+pub header_parts : (h : Header) → header_text h ≡ codes "journal " ++ (version_word h.version ++ behind_version h)
 header_parts h =
     let order : List ℕ = order_text h.version h.order in
     let hot : List ℕ = codes " hot " ++ decimal h.hot in
@@ -38,7 +38,7 @@ header_parts h =
 versions_differ : (x y : List ℕ) → codes "1" ++ x ≡ codes "2" ++ y → ⊥
 versions_differ x y e = let heads : ◌≡◌ {A = ℕ} 49 50 = cc in omega (arith, heads)
 
-one_version : (v u : Version) (x y : List ℕ) → version_word v ++ x ≡ version_word u ++ y → (v ≡ u) × (x ≡ y)
+pub one_version : (v u : Version) (x y : List ℕ) → version_word v ++ x ≡ version_word u ++ y → (v ≡ u) × (x ≡ y)
 one_version One One x y e = (refl, append_cancel_left (codes "1") x y e)
 one_version Two Two x y e = (refl, append_cancel_left (codes "2") x y e)
 one_version One Two x y e = absurd (versions_differ x y e)
