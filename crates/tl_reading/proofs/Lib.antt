@@ -1,1 +1,2 @@
+pub mod DeedTable
 pub mod Standing

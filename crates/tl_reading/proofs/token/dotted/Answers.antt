@@ -1,5 +1,5 @@
-use Rattle.std.proofs.Common.{◌∷◌, ◌≡◌, arith}
-use Rattle.tl_script.proofs.Headers.{no_error, same_number}
+use Rattle.std.proofs.Common.{◌∷◌}
+use Rattle.tl_script.proofs.Headers.{no_error}
 use Rattle.tl_reading.proofs.Standing.{number_before_dot}
 use Rattle.tl_reading.proofs.token.dotted.Goals as goal
 
