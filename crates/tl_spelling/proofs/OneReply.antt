@@ -39,7 +39,7 @@ no_component : (dir : Bool) (x : List ℕ) → BeginsNoComponent (name_more dir 
 no_component true x = refl
 no_component false x = refl
 
-one_name : (e f : Entry) (x y : List ℕ) → IsEntry e → IsEntry f → entry_word e ++ 0x20 ∷ x ≡ entry_word f ++ 0x20 ∷ y → (e ≡ f) × (0x20 ∷ x ≡ 0x20 ∷ y)
+pub one_name : (e f : Entry) (x y : List ℕ) → IsEntry e → IsEntry f → entry_word e ++ 0x20 ∷ x ≡ entry_word f ++ 0x20 ∷ y → (e ≡ f) × (0x20 ∷ x ≡ 0x20 ∷ y)
 one_name e f x y h k same =
     let flat : e.name ++ name_more e.dir (0x20 ∷ x) ≡ f.name ++ name_more f.dir (0x20 ∷ y) =
     sym (append_assoc e.name (if e.dir then codes "/" else []) (0x20 ∷ x)) ∙ same ∙ append_assoc f.name (if f.dir then codes "/" else []) (0x20 ∷ y) in
