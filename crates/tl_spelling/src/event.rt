@@ -68,7 +68,8 @@ fn call<T>(
     bytes: &[u8],
 ) -> Result<(), NoMemory>
     ensures ok { OnOk result (out.new.items ≡ out.old.items
-        ++ (codes "call" ++ 0x20 ∷ (reply_words answer.now ++ 0x20 ∷ command_text (command_with (λ _. bytes.now) said.now)))) }
+        ++ (codes "call" ++ 0x20 ∷ (reply_words answer.now
+        ++ 0x20 ∷ command_text (command_with (λ _. bytes.now) said.now)))) }
     ensures err { OnErr result (take (length out.old.items) out.new.items ≡ out.old.items) }
 {
     word(out, b"call ")?;

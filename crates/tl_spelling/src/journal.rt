@@ -24,7 +24,8 @@ fn version_word(version: Version) -> &'static [u8]
 // Appends the number of the version and how many workers there are.
 fn opening(out: &mut Vec<u8>, version: Version, workers: u8) -> Result<(), NoMemory>
     ensures ok { OnOk result (out.new.items ≡ out.old.items
-        ++ (codes "journal " ++ (version_word version ++ codes " workers" ++ 0x20 ∷ decimal workers))) }
+        ++ (codes "journal " ++ (version_word version ++ codes " workers"
+        ++ 0x20 ∷ decimal workers))) }
     ensures err { OnErr result (take (length out.old.items) out.new.items ≡ out.old.items) }
 {
     word(out, b"journal ")?;
@@ -108,7 +109,8 @@ fn append_journal<T>(
     sources: &[Bytes],
 ) -> Result<(), NoMemory>
     ensures ok { OnOk result (out.new.items
-        ≡ out.old.items ++ spelled_journal journal.now.header (told_by sources.now (reverse journal.now.events))) }
+        ≡ out.old.items ++ spelled_journal journal.now.header
+        (told_by sources.now (reverse journal.now.events))) }
     ensures err { OnErr result (take (length out.old.items) out.new.items ≡ out.old.items) }
 {
     header_line(out, journal.header())?;
@@ -116,9 +118,9 @@ fn append_journal<T>(
     end_line(out, journal.header().version, journal.len())
 }
 
-/// Appends the text of the journal: its header's line, a line for each event, and in version 2 a line
-/// that says how many events there are. The sources are the bytes of its puts, refused ones too, in
-/// the order of their calls; a put for which there is no source is written as one of no bytes. An
+/// Appends the text of the journal: its header's line, a line for each event, and in version 2 a
+/// line that says how many events there are. The sources are the bytes of its puts, refused ones too,
+/// in the order of their calls; a put for which there is no source is written as one of no bytes. An
 /// `Err` leaves `out` as it was.
 pub fn journal_text<T>(
     out: &mut Vec<u8>,
@@ -126,7 +128,8 @@ pub fn journal_text<T>(
     sources: &[Bytes],
 ) -> Result<(), NoMemory>
     ensures ok { OnOk result (out.new.items
-        ≡ out.old.items ++ spelled_journal journal.now.header (told_by sources.now (reverse journal.now.events))) }
+        ≡ out.old.items ++ spelled_journal journal.now.header
+        (told_by sources.now (reverse journal.now.events))) }
     ensures err { OnErr result (out.new.items ≡ out.old.items) }
 {
     let start = out.len();

@@ -19,7 +19,8 @@ pub fn as_in_a_script()
 /// No text is two commands: a put is known but for what its bytes stand for.
 pub fn one_command()
     ensures { (header : Header) (command other : Command (List ℕ)) → header.workers < 2 ^ 8
-        → IsOp header (op_of command) → IsOp header (op_of other) → command_text command ≡ command_text other
+        → IsOp header (op_of command) → IsOp header (op_of other)
+        → command_text command ≡ command_text other
         → shown_command command ≡ shown_command other }
 {}
 
@@ -30,9 +31,10 @@ pub fn one_event()
         → shown event ≡ shown other }
 {}
 
-/// No text is two journals: the header is known, and each event but for what its text does not show.
+/// No text is two journals: the header is known, and each event but for what its text does not
+/// show.
 pub fn one_journal()
-    ensures { (header header' : Header) (events others : List (Event (List ℕ))) → IsJournal header events
-        → IsJournal header' others → spelled_journal header events ≡ spelled_journal header' others
+    ensures { (header header' : Header) (events others : List (Event (List ℕ)))
+        → IsJournal header events → IsJournal header' others → spelled_journal header events ≡ spelled_journal header' others
         → (header ≡ header') × (map shown events ≡ map shown others) }
 {}
