@@ -11,7 +11,8 @@ use tl_script::{CAPACITY_LIMIT, HOT_LIMIT, WORKER_LIMIT, after, number_after, or
 
 // The version whose words the text begins with, and what stands behind them.
 fn version_said(text: &[u8]) -> Option<(Version, &[u8])>
-    ensures found { IfSome result (λ r. text.now ≡ codes "journal " ++ (version_word r.0 ++ r.1.now)) }
+    ensures found { IfSome result (λ r.
+        text.now ≡ codes "journal " ++ (version_word r.0 ++ r.1.now)) }
     ensures none { IfNone result ((version : Version) (rest : List ℕ)
         → text.now ≢ codes "journal " ++ (version_word version ++ rest)) }
 {

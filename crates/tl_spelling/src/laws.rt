@@ -35,6 +35,7 @@ pub fn one_event()
 /// show.
 pub fn one_journal()
     ensures { (header header' : Header) (events others : List (Event (List ℕ)))
-        → IsJournal header events → IsJournal header' others → spelled_journal header events ≡ spelled_journal header' others
+        → IsJournal header events → IsJournal header' others
+        → spelled_journal header events ≡ spelled_journal header' others
         → (header ≡ header') × (map shown events ≡ map shown others) }
 {}
