@@ -1,0 +1,15 @@
+pub mod State
+pub mod Kept
+pub mod Room
+pub mod Losses
+pub mod Stands
+pub mod Turned
+pub mod Main
+pub mod Jobs
+pub mod Looks
+pub mod Works
+pub mod Taken
+pub mod Saves
+pub mod Collected
+pub mod Called
+pub mod Calls
