@@ -17,15 +17,15 @@ use Rattle.tl_cluster.specs.Stands.{PartsState}
 use Rattle.tl_cluster.specs.State.{State}
 
 -- a job was taken up, and these files were used
-abbrev pub with_claimed : {T : Type 0} → Actor → WorkerId → RecordId → List FileId → PartsState T →
-    PartsState T
+abbrev pub with_claimed : {T : Type 0} →
+    Actor → WorkerId → RecordId → List FileId → PartsState T → PartsState T
 with_claimed actor worker made inputs parts = record (with_event actor (Claim worker made) parts) {
   workers = touched_each inputs parts.workers;
 }
 
 -- a job was done, and these blocks came to the worker
-abbrev pub with_done : {T : Type 0} → Actor → WorkerId → RecordId → List FileOutcome →
-    PartsState T → PartsState T
+abbrev pub with_done : {T : Type 0} →
+    Actor → WorkerId → RecordId → List FileOutcome → PartsState T → PartsState T
 with_done actor worker made blocks parts = record (with_event actor (Done worker made) parts) {
   workers = installed_each worker blocks parts.workers;
 }
@@ -57,8 +57,7 @@ is_missing workers block = not (is_resident block.file workers)
 abbrev pub missing_of : Workers → List FileOutcome → List FileOutcome
 missing_of workers blocks = filter (is_missing workers) blocks
 
--- a job was done, and those of these blocks came that are of files in no memory, once there was
--- room
+-- a job was done, once there was room, and those of these blocks came whose files are in no memory
 pub record IsDone {T : Type 0} (actor : Actor) (worker : WorkerId) (made : RecordId)
     (blocks : List FileOutcome) (old new : PartsState T) : Type 0 where
   pub spare : ℕ

@@ -83,8 +83,8 @@ impl<T: Ticket> Parts<T> {
         requires stands { Stands T.tells T.content self.now }
         requires available { AllByRecursion
             (λ f. is_available (without_tickets self.now.events) f ≡ true) files.now }
-        ensures { IfOk result
-            (λ feeds. AreFed T.tells T.content (state_of self.now) files.now feeds.items) }
+        ensures { IfOk result (λ feeds.
+            AreFed T.tells T.content (state_of self.now) files.now feeds.items) }
     {
         let mut feeds = Vec::new(alloc);
         for file in files {

@@ -1,18 +1,14 @@
 //! The main events of a job.
 
-ghost use Rattle.std.specs.Prelude.{◌≡◌, ◌<◌, true, map, Some, IfOk, OnErr, OnOk};
-ghost use Rattle.std.specs.List.{AllByRecursion};
-ghost use Rattle.std.specs.Option.{option_map};
+ghost use Rattle.std.specs.Prelude.{◌≡◌, ◌<◌, true, Some, IfOk, OnErr, OnOk};
 ghost use Rattle.tl_model.specs.Actors.{OpenClaim, open_claim};
-ghost use Rattle.tl_model.specs.History.{outputs_of, record_at};
-ghost use Rattle.tl_model.specs.Past.{events_with, without_tickets};
+ghost use Rattle.tl_model.specs.Past.{without_tickets};
 ghost use Rattle.tl_model.specs.Plan.{next};
 ghost use Rattle.tl_model.specs.Rules.{may_claim};
-ghost use Rattle.tl_model.specs.Values.{value};
-ghost use Rattle.tl_cluster.specs.Jobs.{AreInputs, IsClaimed, IsDone, missing_of, with_back};
+ghost use Rattle.tl_cluster.specs.Jobs.{AreInputs, IsClaimed, IsDone, missing_of, state_of, with_back};
 ghost use Rattle.tl_cluster.specs.Losses.{incarnation};
 ghost use Rattle.tl_cluster.specs.Stands.{Agrees, IsRoomierOnly, Stands};
-ghost use Rattle.tl_cluster.specs.Works.{file_of};
+ghost use Rattle.tl_cluster.specs.Works.{AreOutputs, AreValues};
 
 use crate::parts::Parts;
 use std::alloc::Global;
@@ -71,13 +67,10 @@ impl<T: Ticket> Parts<T> {
         requires actor { actor.0 < 16 }
         requires worker { worker.0 < self.old.header.workers }
         requires stands { Stands T.tells T.content self.old }
-        requires claim { open_claim (without_tickets self.old.events) actor ≡ Some
-            (record { worker = worker; made = made }) }
-        requires outputs { option_map outputs_of
-            (record_at (without_tickets self.old.events) made) ≡ Some (map file_of blocks.now) }
-        requires values { AllByRecursion
-            (λ block. T.tells ≡ true → block.outcome ≡ value
-            (events_with T.content self.old.events) block.file) blocks.now }
+        requires claim { open_claim (without_tickets self.old.events) actor
+            ≡ Some (record { worker = worker; made = made }) }
+        requires outputs { AreOutputs (state_of self.old) made blocks.now }
+        requires values { AreValues T.tells T.content (state_of self.old) blocks.now }
         ensures done { OnOk result (IsDone actor worker made blocks.now self.old self.new) }
         ensures agrees { OnOk result (Agrees T.tells T.content self.new) }
         ensures err { OnErr result (IsRoomierOnly T.tells T.content self.old self.new) }
@@ -116,8 +109,7 @@ impl<T: Ticket> Parts<T> {
         requires actor { actor.0 < 16 }
         requires stands { Stands T.tells T.content self.old }
         requires claim { (claim : OpenClaim)
-            × (open_claim (without_tickets self.old.events) actor ≡ Some claim)
-            × (claim.made ≡ made) }
+            × (open_claim (without_tickets self.old.events) actor ≡ Some claim) × (claim.made ≡ made) }
         ensures back { self.new ≡ with_back actor made self.old }
         ensures agrees { Agrees T.tells T.content self.new }
     {
