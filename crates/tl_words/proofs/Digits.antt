@@ -1,12 +1,10 @@
 -- Numbers in decimal, as words.
-use Rattle.std.proofs.Common.{◌≡◌, ◌∙◌, ◌==◌, ◌<◌, ◌≤◌, ◌^◌, ◌+◌, ◌/◌, ◌%◌, ℕ, false, refl, sym, ap, subst, arith, List, [], ◌∷◌, ◌++◌, drop, length, append-nil, Result, Ok, Err}
+use Rattle.std.proofs.Common.{◌≡◌, ◌∙◌, ◌==◌, ◌<◌, ◌≤◌, ◌^◌, ◌+◌, ◌%◌, ℕ, false, refl, sym, ap, subst, arith, List, [], ◌∷◌, ◌++◌, length, append-nil, Result, Ok, Err}
 use Rattle.std.specs.Fmt.{decimal}
-use Rattle.std.specs.Str.{bytes_eq}
 use Rattle.std.proofs.lemmas.Fmt.{decimal_by_steps}
 use Rattle.std.proofs.lemmas.Bool.Decides.{nat_tests}
-use Rattle.clap.specs.Lexer.{long_of, short_of}
 use Rattle.tl_text.specs.Number.{IsNumber}
-use Rattle.tl_words.proofs.Walking.{IsPlainText, dashes}
+use Rattle.tl_words.proofs.Walking.{IsPlainText}
 
 -- the word that is a number's spelling, as `tl_text` sees it
 pub is_number : (text word : List ℕ) (n : ℕ) → text ≡ word → word ≡ decimal n → n < 2 ^ 64 → IsNumber 18446744073709551615 text n []

@@ -1,12 +1,12 @@
 -- The options of `alone` and `run` as clap reads them: just the words that are spelled are taken.
-use Rattle.std.proofs.Common.{◌≡◌, ◌∙◌, ◌⊎◌, ◌&&◌, ◌||◌, ℕ, Bool, true, false, not, cond, inl, inr, refl, sym, ap, subst, codes, List, [], ◌∷◌, ◌++◌, Option, Some, None}
+use Rattle.std.proofs.Common.{◌≡◌, ◌∙◌, ◌⊎◌, ◌&&◌, ◌||◌, Bool, true, false, not, inl, inr, refl, sym, ap, subst, codes, List, [], ◌∷◌, ◌++◌, Option, Some, None}
 use Rattle.std.specs.Prelude.{if◌then◌else◌}
 use Rattle.std.specs.Str.{bytes_eq}
 use Rattle.std.proofs.lemmas.Slice.Eq.{bytes_eq-Decides}
-use Rattle.clap.specs.Lexer.{long_of, short_of}
-use Rattle.clap.specs.Kinds.{Kinds, or_else}
+use Rattle.clap.specs.Lexer.{long_of}
+use Rattle.clap.specs.Kinds.{or_else}
 use Rattle.clap.specs.Values.{reading_of}
-use Rattle.clap.specs.Walk.{Row, Rule, Text, Walk, arg_by_long, first_of, has_row, idle, nothing_held, one_of, option, plain_word, walked}
+use Rattle.clap.specs.Walk.{Row, Rule, Text, Walk, arg_by_long, first_of, has_row, idle, nothing_held, one_of, option, walked}
 use Rattle.clap.specs.Simple.{App, Shape, built, is_simple, matches_of, new_app, new_rule, on_top, with_rule}
 use Rattle.clap.specs.Faults.{fault_of, is_simple_and_free, long_fault, settle_fault, turn_fault}
 use Rattle.clap.specs.declared.builder.action.ArgAction.TheVariants.{Set, SetTrue}
@@ -17,7 +17,7 @@ use Rattle.clap.proofs.FaultLemmas.{leaf_fault}
 use Rattle.clap.proofs.OnLiterals.{clap_on_literals}
 use Rattle.tl_words.specs.Spells.{AreFlags, crew_flag, crew_joined, journal_flag}
 use Rattle.tl_words.proofs.Longs.{long_is, value_text}
-use Rattle.tl_words.proofs.Walking.{IsLongMet, IsPlainMet, IsTaken, both_empty, dashes, end_settles, first_passes, holding, plain_is_met, plain_turn, refused, rest_fault, rows_left, standing, taken_more, walked_by, word_passes, IsPlainText, NoDashes}
+use Rattle.tl_words.proofs.Walking.{IsTaken, both_empty, dashes, end_settles, first_passes, holding, plain_is_met, plain_turn, refused, rest_fault, rows_left, standing, taken_more, walked_by, word_passes, IsPlainText, NoDashes}
 
 abbrev pub journal_rule : Rule
 journal_rule = record (new_rule (codes "journal")) { long = Some (codes "journal"); action = Some SetTrue }

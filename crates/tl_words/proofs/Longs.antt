@@ -1,5 +1,5 @@
 -- What a word that begins with two hyphens is, by its name and its value.
-use Rattle.std.proofs.Common.{◌≡◌, ◌∙◌, ◌≢◌, ◌⊎◌, ◌==◌, ◌<◌, ℕ, Bool, true, false, suc, zero, cond, inl, inr, refl, sym, ap, ap₂, arith, length, get_or, List, [], ◌∷◌, ◌++◌, Option, Some, None, true≢false}
+use Rattle.std.proofs.Common.{◌≡◌, ◌∙◌, ◌≢◌, ◌⊎◌, ◌==◌, ℕ, Bool, true, false, suc, zero, cond, inl, inr, refl, sym, ap, ap₂, arith, List, [], ◌∷◌, ◌++◌, Option, Some, None}
 use Rattle.std.specs.Prelude.{option_and_then}
 use Rattle.std.proofs.lemmas.Bool.Decides.{nat_tests}
 use Rattle.clap.specs.Lexer.{strip_byte, name_and_value, long_of, long_of_rest}

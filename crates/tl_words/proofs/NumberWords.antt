@@ -14,8 +14,8 @@ use Rattle.clap.specs.declared.parser.matches.ValueSource.TheVariants.{CommandLi
 use Rattle.clap.proofs.FaultLemmas.{leaf_fault}
 use Rattle.clap.proofs.OnLiterals.{clap_on_literals}
 use Rattle.tl_words.specs.Spells.{AreNumbers, run_flag}
-use Rattle.tl_words.proofs.Longs.{long_is, value_text}
-use Rattle.tl_words.proofs.Walking.{IsPlainMet, IsPlainText, IsTaken, NoDashes, dashes, end_passes, first_passes, holding, plain_is_met, plain_turn, refused, rest_fault, rows_left, standing, taken_more, walked_by, word_passes}
+use Rattle.tl_words.proofs.Longs.{long_is}
+use Rattle.tl_words.proofs.Walking.{IsPlainMet, IsPlainText, IsTaken, NoDashes, dashes, first_passes, holding, plain_is_met, plain_turn, refused, rest_fault, rows_left, standing, taken_more, walked_by, word_passes}
 use Rattle.tl_words.proofs.FlagWords.{flag_text}
 
 abbrev pub number_rule : Text → Rule

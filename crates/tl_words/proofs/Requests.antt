@@ -1,5 +1,5 @@
 -- Which request the words can spell, by their first word.
-use Rattle.std.proofs.Common.{◌≡◌, ◌≢◌, ◌∙◌, ◌⊎◌, ◌<◌, ◌≤◌, ◌^◌, ◌&&◌, ◌||◌, ℕ, zero, suc, Bool, true, false, inl, inr, refl, sym, ap, subst, arith, codes, length, get_or, map, List, [], ◌∷◌, ◌++◌, Option, Some, None, IfSome}
+use Rattle.std.proofs.Common.{◌≡◌, ◌≢◌, ◌∙◌, ◌⊎◌, ◌<◌, ◌≤◌, ◌^◌, ℕ, zero, suc, Bool, true, false, inl, inr, refl, sym, ap, subst, arith, codes, length, get_or, map, List, [], ◌∷◌, Option, Some, None, IfSome}
 use Rattle.std.specs.Prelude.{slice_get, option_map}
 use Rattle.std.specs.Option.{IsSomeAnd, is_some}
 use Rattle.std.specs.Borrow.{Bor}

@@ -3,11 +3,9 @@ use Rattle.std.proofs.Common.{◌≡◌, ◌≢◌, ◌∙◌, ◌<◌, ◌^◌,
 use Rattle.std.specs.Prelude.{option_map}
 use Rattle.std.specs.Fmt.{decimal}
 use Rattle.std.specs.Str.{bytes_eq}
-use Rattle.std.specs.List.{list_any}
 use Rattle.std.proofs.lemmas.Option.{MatchOption-at_some, MatchOption-at_none, same_Some}
 use Rattle.clap.specs.Walk.{first_of, one_of, rows_of}
 use Rattle.clap.specs.Matches.{first_value, found_of, one_text}
-use Rattle.clap.specs.Kinds.{Kinds}
 use Rattle.clap.specs.Simple.{App, HasMatchesOf, app_of, app_of_fields, is_simple, matches_of, on_top}
 use Rattle.clap.specs.Faults.{fault_of, is_simple_and_free}
 use Rattle.clap.specs.declared.builder.command.Command.{Command}

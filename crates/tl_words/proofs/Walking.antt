@@ -1,13 +1,13 @@
 -- How clap's walk over the words goes on, word by word, for a command with no subcommand and no
 -- short option.
-use Rattle.std.proofs.Common.{◌≡◌, ◌∙◌, ◌⊎◌, ℕ, Bool, true, false, not, suc, zero, cond, inl, inr, refl, sym, ap, ap₂, subst, length, List, [], ◌∷◌, ◌++◌, Option, Some, None}
+use Rattle.std.proofs.Common.{◌≡◌, ◌∙◌, ◌⊎◌, ℕ, Bool, false, inl, inr, refl, sym, ap, ap₂, length, List, [], ◌∷◌, Option, Some, None}
 use Rattle.std.specs.Prelude.{if◌then◌else◌, slice_get, drop, encode_utf8}
 use Rattle.std.specs.List.{fold}
-use Rattle.std.specs.Option.{option_map, option_map_or}
+use Rattle.std.specs.Option.{option_map_or}
 use Rattle.std.specs.Str.{bytes_eq, chars}
 use Rattle.clap.specs.Lexer.{long_of, short_of}
 use Rattle.clap.specs.Kinds.{Kinds, or_else}
-use Rattle.clap.specs.Walk.{Held, Row, Rule, Step, Text, Waiting, idle, option, positional, Walk, after_flag, after_step, arg_by_long, arg_by_short, bundle_met, bundle_step, finished, long_or_other, plain, plain_word, settled, short_or_plain, subcommand_met, subcommand_or_other, trailing, walked, word_met}
+use Rattle.clap.specs.Walk.{Held, Row, Step, Text, Waiting, idle, option, positional, Walk, after_flag, after_step, arg_by_long, arg_by_short, bundle_met, bundle_step, finished, long_or_other, plain, plain_word, settled, short_or_plain, subcommand_met, subcommand_or_other, trailing, walked, word_met}
 use Rattle.clap.specs.Simple.{Shape}
 use Rattle.clap.specs.declared.error.kind.ErrorKind.{ErrorKind}
 use Rattle.clap.specs.declared.error.kind.ErrorKind.TheVariants.{UnknownArgument}

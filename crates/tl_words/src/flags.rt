@@ -1,6 +1,7 @@
 //! The options of `alone` and `run`.
 
 ghost use Rattle.std.specs.Prelude.{◌≡◌, false, IfOk, map, string_bytes};
+ghost use Rattle.tl_words.specs.Parts.{ReadsFlags, TakesFlags};
 ghost use Rattle.tl_words.specs.Spells.{has_dashes};
 
 use crate::matched::matched;
@@ -16,8 +17,6 @@ pub(crate) struct Flags<'a> {
     /// The value of `--crew`, where it is there.
     pub crew: Option<&'a str>,
 }
-
-ghost use Rattle.tl_words.specs.Parts.{ReadsFlags, TakesFlags};
 
 /// The options after the first word, which is the command. `None` where other words stand there.
 pub(crate) fn flags_of<'a>(alloc: Global, args: &'a [String]) -> Result<Option<Flags<'a>>, NoMemory>

@@ -1,6 +1,9 @@
 //! The numbers and the option of `gen`.
 
-ghost use Rattle.std.specs.Prelude.{◌≡◌, false, IfOk, map, string_bytes};
+ghost use Rattle.std.specs.Prelude.{◌≡◌, true, false, IfOk, IfSome, codes, is_some, map};
+ghost use Rattle.std.specs.Prelude.{string_bytes};
+ghost use Rattle.clap.specs.Words.{first_value, found_of};
+ghost use Rattle.tl_words.specs.Parts.{ReadsNumbers, TakesNumbers, TellsRun};
 ghost use Rattle.tl_words.specs.Spells.{has_dashes};
 
 use crate::matched::matched;
@@ -18,8 +21,6 @@ pub(crate) struct Numbers<'a> {
     /// Whether `--run` is there.
     pub run: bool,
 }
-
-ghost use Rattle.tl_words.specs.Parts.{ReadsNumbers, TakesNumbers};
 
 /// What stands after the first word, which is the command: two words and the option. `None` where
 /// other words stand there.
@@ -50,10 +51,6 @@ pub(crate) fn numbers_of<'a>(
     };
     Ok(numbers_in(&matches))
 }
-
-ghost use Rattle.std.specs.Prelude.{IfSome, codes, is_some, true};
-ghost use Rattle.clap.specs.Words.{found_of, first_value};
-ghost use Rattle.tl_words.specs.Parts.{TellsRun};
 
 // What the matches have of the two words and the option.
 fn numbers_in<'a>(matches: &ArgMatches<'a>) -> Option<Numbers<'a>>

@@ -1,6 +1,6 @@
 use Rattle.std.proofs.Common.{◌≡◌, ◌∙◌, rules, ap, ap₂, true}
 use Rattle.clap.specs.Walk.{rule_of}
-use Rattle.clap.specs.Simple.{App, Shape, app_of, on_top, with_rule}
+use Rattle.clap.specs.Simple.{App, app_of, on_top, with_rule}
 use Rattle.tl_words.proofs.FlagWords.{crew_rule, flags_app, journal_rule}
 use Rattle.tl_words.proofs.Results.{disabled_app, flags_are_read, flags_are_told, flags_not_refused, flags_spelled}
 use Rattle.tl_words.proofs.flags.flags_of.Goals as goal
