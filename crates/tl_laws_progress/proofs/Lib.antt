@@ -1,2 +1,4 @@
 pub mod Fewer
 pub mod OpenReads
+pub mod Running
+pub mod Counting

@@ -1,5 +1,5 @@
 -- A read whose file isn't available has a record to wait for that is next, and each one that is run leaves fewer tasks.
-use Rattle.std.proofs.Common.{◌≡◌, ℕ, ◌<◌, Bool, true, false, not, if◌then◌else◌, List, [], ◌∷◌, length, slice_get, Option, Some, None, Result, Ok, Err, is_none, is_some, refl, sym, ap, ◌∙◌, subst, arith}
+use Rattle.std.proofs.Common.{◌≡◌, ◌<◌, Bool, true, false, not, if◌then◌else◌, List, [], ◌∷◌, length, slice_get, Option, Some, None, Result, Ok, Err, is_none, is_some, refl, sym, ap, ◌∙◌, subst, arith}
 use Rattle.std.specs.List.{list_any}
 use Rattle.std.proofs.lemmas.Bool.{and_parts, and_from, ltb-true}
 use Rattle.tl_types.specs.Same.{actor_same, file_same-Decides}
@@ -36,9 +36,9 @@ use Rattle.tl_laws.proofs.Actors.{among-actors, reader-known}
 use Rattle.tl_laws.proofs.Tickets.{reply_to-with}
 use Rattle.tl_laws.proofs.Saves.{permitted-reply}
 use Rattle.tl_laws.proofs.Ready.{IsResting, after, any-output, task-at, resting-next, lawful-rests}
-use Rattle.tl_laws.proofs.Next.{next-is}
 use Rattle.tl_laws_progress.specs.Done.{after_done}
-use Rattle.tl_laws_progress.proofs.Fewer.{or-left, or-right, done-leaves-fewer}
+use Rattle.tl_laws_progress.proofs.Fewer.{or-left, or-right, idle-ends-none}
+use Rattle.tl_laws_progress.proofs.Running.{next-and-drops-leave-fewer}
 
 -- ---- the file of an open read
 
@@ -193,9 +193,5 @@ pub next-leaves-fewer : {T : Type 0} (header : Header) (events : List (Event T))
     ((made : RecordId) → is_running (without_tickets events) made ≡ false) → (actor : Actor) (worker : WorkerId) (made : RecordId) → next header.order (without_tickets events) ≡ Some made →
     length (chosen (tasks (after_done actor worker made (without_tickets events)))) < length (chosen (tasks (without_tickets events)))
 next-leaves-fewer header events lawful idle actor worker made is =
-    let past : Past = without_tickets events in
-    let rest = lawful-rests header events lawful idle in
-    let n = next-is header.order past made is rest.numbers in
-    let count : RecordId → ℕ = λ id. length (chosen (tasks (after_done actor worker id past))) in
-    subst (λ id. count id < length (chosen (tasks past))) n.id
-    (done-leaves-fewer past actor worker n.place.0 n.it rest.numbers idle n.place.1 n.task)
+    next-and-drops-leave-fewer header events (and_parts (all_permitted lawful_judge header events) (is_quiet lawful_judge events) lawful).0 actor worker made
+    (idle-ends-none (without_tickets events) actor worker made idle) is [] [] tt tt

@@ -2,6 +2,9 @@
 //! an empty body.
 #![tactic(auto)]
 
+mod few;
+mod runs;
+
 ghost use Rattle.std.specs.Prelude.{◌≡◌, ◌<◌, ℕ, true, false, is_some, List, Some, length, slice_get};
 ghost use Rattle.tl_types.specs.declared.actor.Actor.{Actor};
 ghost use Rattle.tl_types.specs.declared.record_id.RecordId.{RecordId};
@@ -17,6 +20,12 @@ ghost use Rattle.tl_model.specs.Residency.{is_available};
 ghost use Rattle.tl_model.specs.Plan.{is_task, next, tasks};
 ghost use Rattle.tl_model.specs.Rules.{is_lawful};
 ghost use Rattle.tl_laws_progress.specs.Done.{after_done};
+
+pub use few::tasks_are_few;
+pub use runs::{
+    a_run_leaves_fewer_tasks, next_leaves_fewer_tasks_despite_drops, nothing_runs_after_a_run,
+    permitted_drops_may_go,
+};
 
 /// A task that is claimed and done while nothing else runs leaves fewer tasks: itself is none then,
 /// and no other becomes one.
