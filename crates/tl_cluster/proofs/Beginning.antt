@@ -1,15 +1,14 @@
 -- A cluster of no events.
-use Rattle.std.proofs.Common.{◌≡◌, ℕ, zero, suc, ◌+◌, ◌≤◌, Bool, true, false, cond, ◌&&◌, List, [], ◌∷◌, filter, slice_get, replicate, Option, Some, None, option_map, refl, sym, ap, ◌∙◌, subst, arith}
-use Rattle.tl_types.specs.Block.{FileOutcome}
+use Rattle.std.proofs.Common.{◌≡◌, ℕ, zero, suc, ◌+◌, Bool, true, false, cond, ◌&&◌, List, [], ◌∷◌, filter, slice_get, replicate, Some, None, option_map, refl, ap, ◌∙◌, arith}
 use Rattle.tl_types.specs.declared.file_id.FileId.{FileId}
 use Rattle.tl_types.specs.declared.worker_id.WorkerId.{WorkerId}
 use Rattle.tl_model.specs.declared.header.Header.{Header}
-use Rattle.tl_model.specs.Eviction.{first_of, first_to_drop, is_over, must_drop, workers}
+use Rattle.tl_model.specs.Eviction.{first_of, is_over, must_drop, workers}
 use Rattle.tl_model.specs.Rules.{size_of}
-use Rattle.tl_fleet.specs.Workers.{Workers, found, found_from, held_count, incarnation_of, new_worker, new_workers}
+use Rattle.tl_fleet.specs.Workers.{found, found_from, held_count, incarnation_of, new_worker, new_workers}
 use Rattle.tl_fleet.proofs.Events.{new_stands}
 use Rattle.tl_fleet.proofs.Held.{new_held}
-use Rattle.tl_cluster.specs.Stands.{Agrees, PartsState, Stands}
+use Rattle.tl_cluster.specs.Stands.{Stands}
 
 none-found : (f : FileId) (n count capacity : ℕ) → found_from n f (replicate count (new_worker capacity)) ≡ None
 none-found f n zero capacity = refl

@@ -1,5 +1,5 @@
 -- What the beginning of a save answers.
-use Rattle.std.proofs.Common.{◌≡◌, ℕ, Bool, true, List, ◌∷◌, length, Option, Some, None, is_some, refl, sym, ap, ◌∙◌, subst}
+use Rattle.std.proofs.Common.{◌≡◌, ℕ, Bool, true, List, ◌∷◌, length, Some, is_some, refl, sym, ap, ◌∙◌, subst}
 use Rattle.tl_types.specs.Block.{FileOutcome}
 use Rattle.tl_types.specs.declared.actor.Actor.{Actor}
 use Rattle.tl_types.specs.declared.file_id.FileId.{FileId}
@@ -8,11 +8,10 @@ use Rattle.tl_model.specs.declared.event.Event.{Event}
 use Rattle.tl_model.specs.Checkpoints.{next_save}
 use Rattle.tl_model.specs.Past.{without_tickets}
 use Rattle.tl_steps.proofs.Saving.{can-parts, next-can}
-use Rattle.tl_cluster.specs.declared.saving.SaveJob.{SaveJob}
 use Rattle.tl_cluster.specs.Main.{with_begun}
 use Rattle.tl_cluster.specs.Saves.{Begun}
 use Rattle.tl_cluster.specs.Stands.{Agrees, IsReady, PartsState}
-use Rattle.tl_cluster.specs.State.{State, held}
+use Rattle.tl_cluster.specs.State.{held}
 use Rattle.tl_cluster.specs.Turned.{Settled, Turned, as_held}
 use Rattle.tl_cluster.proofs.Steps.{held-resident}
 use Rattle.tl_cluster.proofs.Turning.{held-file, state_of, turned}

@@ -1,5 +1,5 @@
 -- What a loaded block answers.
-use Rattle.std.proofs.Common.{◌≡◌, ℕ, ◌<◌, Bool, true, false, if◌then◌else◌, List, ◌∷◌, length, Option, Some, None, is_some, option_map, refl, sym, ap, ◌∙◌, subst}
+use Rattle.std.proofs.Common.{◌≡◌, ℕ, ◌<◌, Bool, true, false, if◌then◌else◌, List, ◌∷◌, length, Option, Some, is_some, option_map, refl, sym, ap, ◌∙◌, subst}
 use Rattle.tl_types.specs.Block.{FileOutcome}
 use Rattle.tl_types.specs.Outcome.{digest_of}
 use Rattle.tl_types.specs.Same.{file_same}
@@ -7,17 +7,16 @@ use Rattle.tl_types.specs.declared.actor.Actor.{Actor}
 use Rattle.tl_types.specs.declared.digest.Digest.{Digest}
 use Rattle.tl_types.specs.declared.file_id.FileId.{FileId}
 use Rattle.tl_types.specs.declared.worker_id.WorkerId.{WorkerId}
-use Rattle.tl_model.specs.declared.event.Act.TheVariants.{Load, Served}
-use Rattle.tl_model.specs.declared.event.Event.{Event}
+use Rattle.tl_model.specs.declared.event.Act.TheVariants.{Served}
 use Rattle.tl_model.specs.Past.{without_tickets}
 use Rattle.tl_model.specs.Residency.{is_resident}
 use Rattle.tl_fleet.specs.Workers.{Workers, all_touched, found, installed}
 use Rattle.tl_fleet.specs.Workers as fleet
 use Rattle.tl_fleet.proofs.Found.{one_brought}
-use Rattle.tl_cluster.specs.Looks.{IsServed, Loaded, loading, serving, with_block}
+use Rattle.tl_cluster.specs.Looks.{Loaded, with_block}
 use Rattle.tl_cluster.specs.Main.{IsLoaded, with_loaded, with_served}
-use Rattle.tl_cluster.specs.Stands.{Agrees, PartsState, Stands}
-use Rattle.tl_cluster.specs.State.{State, block_found, held}
+use Rattle.tl_cluster.specs.Stands.{Agrees, PartsState}
+use Rattle.tl_cluster.specs.State.{block_found, held}
 use Rattle.tl_cluster.specs.Turned.{Settled, Turned, as_held}
 use Rattle.tl_cluster.proofs.Rooms.{absent-workers}
 use Rattle.tl_cluster.proofs.Steps.{held-resident}

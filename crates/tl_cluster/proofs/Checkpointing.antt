@@ -1,6 +1,6 @@
 -- A file is saved.
-use Rattle.std.proofs.Common.{◌≡◌, ℕ, zero, suc, ◌+◌, ◌-◌, ◌<◌, ◌≤◌, ◌==◌, ◌⊎◌, inl, inr, Bool, true, false, ◌&&◌, ◌||◌, if◌then◌else◌, bytes_eq, List, ◌∷◌, Option, Some, None, is_some, refl, sym, ap, ◌∙◌, subst, arith}
-use Rattle.std.proofs.lemmas.Bool.{and_from, and_parts, ltb-true}
+use Rattle.std.proofs.Common.{◌≡◌, ℕ, ◌+◌, ◌<◌, ◌≤◌, inl, inr, Bool, true, false, ◌||◌, if◌then◌else◌, List, ◌∷◌, Option, Some, None, is_some, refl, sym, ap, ◌∙◌, subst, arith}
+use Rattle.std.proofs.lemmas.Bool.{and_from, ltb-true}
 use Rattle.std.proofs.lemmas.Bool.Decides.{Decides-eqb}
 use Rattle.std.proofs.lemmas.Slice.Eq.{bytes_eq-Decides}
 use Rattle.tl_types.specs.Block.{FileOutcome}
@@ -21,7 +21,7 @@ use Rattle.tl_model.specs.Actors.{is_idle, open_claim, open_read, open_save, sav
 use Rattle.tl_model.specs.Checkpoints.{next_save}
 use Rattle.tl_model.specs.History.{has_output, record_at}
 use Rattle.tl_model.specs.Residency.{SavedAs, is_saved, saved_as}
-use Rattle.tl_model.specs.Rules.{has_size_and_digest, is_file, lawful_judge, owed, put_of, size_of}
+use Rattle.tl_model.specs.Rules.{has_size_and_digest, is_file, lawful_judge, put_of, size_of}
 use Rattle.tl_model.specs.Values.{value}
 use Rattle.tl_laws.proofs.Saves.{all-saves, owes_save}
 use Rattle.tl_steps.proofs.Saving.{all-once}

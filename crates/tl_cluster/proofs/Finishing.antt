@@ -1,6 +1,6 @@
 -- A job is done: what it brings, and what is held then.
-use Rattle.std.proofs.Common.{◌≡◌, ℕ, zero, suc, ◌+◌, ◌-◌, ◌<◌, ◌≤◌, ◌==◌, ◌⊎◌, inl, inr, nat_lt, nat_le, Bool, true, false, not, cond, ◌&&◌, ◌||◌, if◌then◌else◌, List, [], ◌∷◌, length, map, filter, slice_get, Option, Some, None, is_some, is_none, option_map, refl, sym, ap, ◌∙◌, subst, arith}
-use Rattle.std.specs.List.{AllByRecursion, list_any}
+use Rattle.std.proofs.Common.{◌≡◌, ℕ, zero, suc, ◌+◌, ◌<◌, ◌≤◌, ◌==◌, ◌⊎◌, inl, inr, nat_lt, nat_le, Bool, true, false, not, cond, ◌&&◌, ◌||◌, if◌then◌else◌, List, [], ◌∷◌, length, map, filter, slice_get, Option, Some, None, is_some, is_none, option_map, refl, sym, ap, ◌∙◌, subst, arith}
+use Rattle.std.specs.List.{AllByRecursion}
 use Rattle.std.specs.Option.{option_map_or}
 use Rattle.std.proofs.lemmas.Bool.{and_from, and_parts}
 use Rattle.std.proofs.lemmas.Bool.Decides.{nat_tests}
@@ -14,7 +14,6 @@ use Rattle.tl_types.specs.declared.file_id.FileId.{FileId}
 use Rattle.tl_types.specs.declared.record_id.RecordId.{RecordId}
 use Rattle.tl_types.specs.declared.worker_id.WorkerId.{WorkerId}
 use Rattle.tl_model.specs.declared.event.Act.TheVariants.{Done}
-use Rattle.tl_model.specs.declared.event.Event.{Event}
 use Rattle.tl_model.specs.declared.header.Header.{Header}
 use Rattle.tl_model.specs.declared.record.Record.{Record}
 use Rattle.tl_model.specs.declared.record.Record.TheVariants as kind
@@ -32,7 +31,7 @@ use Rattle.tl_fleet.specs.Events.{among, file_of, files_of, installed_each}
 use Rattle.tl_fleet.specs.Order.{Ascends, StandsInOrder}
 use Rattle.tl_fleet.specs.Workers.{Workers, found, held_count, incarnation_of, installed, is_resident, put_front, worker_found}
 use Rattle.tl_fleet.proofs.Copies.{block_is}
-use Rattle.tl_fleet.proofs.Files.{Distinct, all_filtered, among_filtered, ascends_distinct, ascends_filtered, either, has_among, same_is, same_self}
+use Rattle.tl_fleet.proofs.Files.{Distinct, among_filtered, ascends_distinct, ascends_filtered, either, has_among, same_is, same_self}
 use Rattle.tl_fleet.proofs.Found.{each_brought}
 use Rattle.tl_fleet.proofs.Held.{each_installed_held}
 use Rattle.tl_fleet.proofs.Incarnations.{changed_same}
@@ -41,7 +40,7 @@ use Rattle.tl_fleet.proofs.Several.{done_stands}
 use Rattle.tl_fleet.proofs.Sizes.{stands_by_other}
 use Rattle.tl_fleet.proofs.Sooner.{lesser_output}
 use Rattle.tl_fleet.proofs.Steps.{each_there}
-use Rattle.tl_cluster.specs.Jobs.{is_missing, missing_of, with_done}
+use Rattle.tl_cluster.specs.Jobs.{missing_of, with_done}
 use Rattle.tl_cluster.specs.Room.{under_way}
 use Rattle.tl_cluster.specs.Stands.{Agrees, Fits, IsJobAt, PartsState, Stands}
 use Rattle.tl_cluster.specs.State.{block_found, held}

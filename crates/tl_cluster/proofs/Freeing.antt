@@ -18,7 +18,7 @@ use Rattle.tl_model.specs.History.{calls_of, names, names_of}
 use Rattle.tl_model.specs.Actors.{open_claim, open_save}
 use Rattle.tl_model.specs.Residency.{is_resident, saved_as}
 use Rattle.tl_model.specs.Values.{value}
-use Rattle.tl_model.specs.Rules.{Owed, Nothing, ToDrop, ToFree, is_file, lawful_judge, legal_judge, ok_file, owed, owed_after_call, owed_free, pays, size_of}
+use Rattle.tl_model.specs.Rules.{Owed, Nothing, ToDrop, ToFree, is_file, lawful_judge, legal_judge, ok_file, owed_after_call, owed_free, pays, size_of}
 use Rattle.tl_laws.proofs.Permits.{client-known, holds-two, permits}
 use Rattle.tl_laws.proofs.Tickets.{names-with}
 use Rattle.tl_fleet.specs.Workers.{all_without, found, held_count}

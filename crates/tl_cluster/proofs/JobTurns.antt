@@ -1,12 +1,10 @@
 -- The turns of a job: what they answer and what is held after them.
-use Rattle.std.proofs.Common.{◌≡◌, ℕ, ◌<◌, Bool, List, ◌∷◌, length, map, Option, Some, None, option_map, refl, sym, ap, ◌∙◌, subst}
+use Rattle.std.proofs.Common.{◌≡◌, ℕ, ◌<◌, Bool, List, ◌∷◌, length, map, Some, option_map, refl, sym, ap, subst}
 use Rattle.tl_types.specs.Block.{FileOutcome}
 use Rattle.tl_types.specs.declared.actor.Actor.{Actor}
-use Rattle.tl_types.specs.declared.file_id.FileId.{FileId}
 use Rattle.tl_types.specs.declared.record_id.RecordId.{RecordId}
 use Rattle.tl_types.specs.declared.worker_id.WorkerId.{WorkerId}
 use Rattle.tl_model.specs.declared.event.Act.TheVariants.{Done}
-use Rattle.tl_model.specs.declared.event.Event.{Event}
 use Rattle.tl_model.specs.Past.{without_tickets}
 use Rattle.tl_model.specs.History.{outputs_of, record_at}
 use Rattle.tl_fleet.specs.Events.{file_of}
@@ -14,7 +12,7 @@ use Rattle.tl_fleet.proofs.Found.{each_touched}
 use Rattle.tl_cluster.specs.declared.feeds.Taken.{Taken}
 use Rattle.tl_cluster.specs.Jobs.{IsClaimed, IsDone, missing_of, state_of, with_claimed, with_done}
 use Rattle.tl_cluster.specs.Stands.{PartsState, Stands}
-use Rattle.tl_cluster.specs.State.{State, block_found, held}
+use Rattle.tl_cluster.specs.State.{State, block_found}
 use Rattle.tl_cluster.specs.Taken.{IsTaken}
 use Rattle.tl_cluster.specs.Turned.{Settled, Turned, as_held}
 use Rattle.tl_cluster.specs.Works.{Claimed, with_blocks}

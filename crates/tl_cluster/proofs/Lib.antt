@@ -23,3 +23,5 @@ pub mod Calls
 pub mod Freeing
 pub mod Keeping
 pub mod Answering
+pub mod KeptCount
+pub mod LettingGo

@@ -1,10 +1,10 @@
 -- A block is loaded, and serves the read for which it was loaded.
-use Rattle.std.proofs.Common.{◌≡◌, ℕ, ◌+◌, ◌-◌, ◌<◌, ◌≤◌, ◌==◌, Bool, true, false, ◌&&◌, not, if◌then◌else◌, bytes_eq, List, ◌∷◌, length, Option, Some, None, inl, inr, is_some, option_map, refl, sym, ap, ◌∙◌, subst, arith}
+use Rattle.std.proofs.Common.{◌≡◌, ℕ, ◌+◌, ◌<◌, ◌≤◌, ◌==◌, Bool, true, false, ◌&&◌, not, if◌then◌else◌, bytes_eq, List, ◌∷◌, length, Option, Some, None, inl, inr, is_some, refl, sym, ap, ◌∙◌, subst, arith}
 use Rattle.std.proofs.lemmas.Bool.{and_from, and_parts, lt-ltb}
 use Rattle.std.proofs.lemmas.Slice.Eq.{bytes_eq-Decides}
 use Rattle.tl_types.specs.Block.{FileOutcome}
 use Rattle.tl_types.specs.Outcome.{digest_of, outcome_size}
-use Rattle.tl_types.specs.Same.{actor_same, actor_same-Decides, file_same, file_same-Decides, worker_same-Decides}
+use Rattle.tl_types.specs.Same.{actor_same, actor_same-Decides, file_same, file_same-Decides}
 use Rattle.tl_types.specs.declared.actor.Actor.{Actor}
 use Rattle.tl_types.specs.declared.digest.Digest.{Digest}
 use Rattle.tl_types.specs.declared.file_id.FileId.{FileId}
@@ -18,11 +18,11 @@ use Rattle.tl_model.specs.declared.header.Header.{Header}
 use Rattle.tl_model.specs.History.{has_output, record_at, records}
 use Rattle.tl_model.specs.Actors.{OpenRead, open_read, open_claim, open_save, reads_file}
 use Rattle.tl_model.specs.Residency.{SavedAs, is_resident, is_saved, place, saved_as}
-use Rattle.tl_model.specs.Rules.{Nothing, ToServe, has_digest, is_known_worker, is_permitted, lawful_judge, legal_judge, owed, pays, put_of, has_size_and_digest, size_of}
+use Rattle.tl_model.specs.Rules.{has_digest, is_known_worker, is_permitted, lawful_judge, legal_judge, put_of, has_size_and_digest, size_of}
 use Rattle.tl_laws.proofs.Numbering.{get-within}
 use Rattle.tl_laws.proofs.Permits.{actor-known, holds-two, permits}
 use Rattle.tl_steps.proofs.Within.{all-within}
-use Rattle.tl_fleet.specs.Order.{IsOfFile, StandsInOrder, is_made, sight_of}
+use Rattle.tl_fleet.specs.Order.{StandsInOrder, is_made}
 use Rattle.tl_fleet.specs.Workers.{Workers, all_touched, found, held_count, installed, put_front, with_blocks}
 use Rattle.tl_fleet.specs.Workers as fleet
 use Rattle.tl_fleet.proofs.Events.{load_stands, served_stands}
@@ -41,7 +41,7 @@ use Rattle.tl_cluster.specs.Stands.{Agrees, Fits, PartsState, Stands}
 use Rattle.tl_cluster.proofs.Carry.{same_either}
 use Rattle.tl_cluster.proofs.Count.{under_way-few}
 use Rattle.tl_cluster.proofs.Reading.{reads-it}
-use Rattle.tl_cluster.proofs.Steps.{goes-on, lawful-permitted, stands-legal, told-goes-on}
+use Rattle.tl_cluster.proofs.Steps.{lawful-permitted, told-goes-on}
 use Rattle.tl_cluster.proofs.Told.{plain-told}
 
 -- sizes with that of one file's block

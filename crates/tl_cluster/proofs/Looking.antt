@@ -10,7 +10,7 @@ use Rattle.tl_model.specs.declared.event.Event.{Event}
 use Rattle.tl_model.specs.declared.saved.Saved.{Saved}
 use Rattle.tl_model.specs.declared.saved.Saved.TheVariants.{Held, Failed}
 use Rattle.tl_model.specs.Past.{events_with, without_tickets}
-use Rattle.tl_model.specs.Residency.{SavedAs, is_available, is_resident, is_saved, saved_as}
+use Rattle.tl_model.specs.Residency.{SavedAs, is_resident, is_saved, saved_as}
 use Rattle.tl_model.specs.Values.{value}
 use Rattle.tl_cluster.specs.declared.look.Look.{Look}
 use Rattle.tl_cluster.specs.declared.look.Look.TheVariants as looked

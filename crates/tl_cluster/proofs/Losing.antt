@@ -1,5 +1,5 @@
 -- A worker is lost.
-use Rattle.std.proofs.Common.{◌≡◌, ℕ, suc, ◌+◌, ◌-◌, ◌<◌, ◌≤◌, ◌^◌, Bool, true, false, if◌then◌else◌, List, [], ◌∷◌, length, slice_get, Option, Some, None, IfSome, option_map, refl, sym, ap, ◌∙◌, subst, arith}
+use Rattle.std.proofs.Common.{◌≡◌, ℕ, suc, ◌+◌, ◌-◌, ◌<◌, ◌≤◌, ◌^◌, Bool, true, false, if◌then◌else◌, List, [], ◌∷◌, length, slice_get, Option, Some, None, IfSome, option_map, refl, sym, ap, ◌∙◌, arith}
 use Rattle.std.proofs.lemmas.Bool.{lt-ltb}
 use Rattle.tl_types.specs.Block.{FileOutcome}
 use Rattle.tl_types.specs.Same.{actor_same, worker_same}
@@ -10,9 +10,9 @@ use Rattle.tl_model.specs.declared.event.Act.TheVariants.{Lose}
 use Rattle.tl_model.specs.declared.event.Event.{Event}
 use Rattle.tl_model.specs.Past.{Past, events_with, without_tickets}
 use Rattle.tl_model.specs.Actors.{open_claim, open_save, is_on}
-use Rattle.tl_model.specs.Residency.{is_at, is_resident_on, place}
+use Rattle.tl_model.specs.Residency.{is_at}
 use Rattle.tl_model.specs.Rules.{is_known_worker, size_of}
-use Rattle.tl_fleet.specs.Workers.{Workers, found, held_count, incarnation_of, lost, worker_found}
+use Rattle.tl_fleet.specs.Workers.{found, held_count, incarnation_of, lost, worker_found}
 use Rattle.tl_fleet.specs.declared.worker.Worker.{Worker}
 use Rattle.tl_fleet.proofs.Events.{loss_stands}
 use Rattle.tl_fleet.proofs.Found.{lost_there}

@@ -1,5 +1,5 @@
 -- A read is served or given up.
-use Rattle.std.proofs.Common.{◌≡◌, ℕ, ◌+◌, ◌-◌, ◌<◌, ◌≤◌, Bool, true, if◌then◌else◌, bytes_eq, List, ◌∷◌, Option, Some, None, is_some, option_map, refl, sym, ap, ◌∙◌, subst, arith}
+use Rattle.std.proofs.Common.{◌≡◌, ℕ, ◌+◌, ◌<◌, ◌≤◌, Bool, true, if◌then◌else◌, bytes_eq, List, ◌∷◌, Option, Some, None, is_some, option_map, refl, sym, ap, ◌∙◌, subst, arith}
 use Rattle.std.proofs.lemmas.Bool.{and_from}
 use Rattle.std.proofs.lemmas.Slice.Eq.{bytes_eq-Decides}
 use Rattle.tl_types.specs.Block.{FileOutcome}
@@ -11,14 +11,13 @@ use Rattle.tl_types.specs.declared.file_id.FileId.{FileId}
 use Rattle.tl_types.specs.declared.worker_id.WorkerId.{WorkerId}
 use Rattle.tl_model.specs.declared.event.Act.{Act}
 use Rattle.tl_model.specs.declared.event.Act.TheVariants.{Served, Shut}
-use Rattle.tl_model.specs.declared.event.Event.{Event}
 use Rattle.tl_model.specs.Past.{Past, events_with, without_tickets}
 use Rattle.tl_model.specs.Values.{value}
 use Rattle.tl_model.specs.Actors.{OpenRead, open_read, open_claim, open_save, reads_file}
 use Rattle.tl_model.specs.Residency.{is_resident}
 use Rattle.tl_model.specs.Rules.{has_digest, put_of, size_of}
 use Rattle.tl_fleet.proofs.Events.{served_stands}
-use Rattle.tl_fleet.specs.Workers.{Workers, all_touched, found, held_count, with_blocks}
+use Rattle.tl_fleet.specs.Workers.{Workers, all_touched, found, held_count}
 use Rattle.tl_fleet.proofs.Found.{found_file, one_touched}
 use Rattle.tl_fleet.proofs.Held.{touched_held}
 use Rattle.tl_fleet.proofs.Incarnations.{mapped_same}

@@ -1,8 +1,7 @@
 -- The drops that settle the workers' memories.
-use Rattle.std.proofs.Common.{◌≡◌, ℕ, ◌+◌, ◌-◌, ◌<◌, ◌≤◌, Bool, true, false, ◌&&◌, ◌||◌, if◌then◌else◌, List, [], ◌∷◌, Option, Some, None, is_some, slice_get, option_map, refl, sym, ap, ◌∙◌, subst, arith}
+use Rattle.std.proofs.Common.{◌≡◌, ℕ, ◌+◌, ◌<◌, ◌≤◌, Bool, true, false, ◌&&◌, ◌||◌, if◌then◌else◌, List, [], ◌∷◌, Option, Some, None, is_some, option_map, refl, sym, ap, ◌∙◌, subst, arith}
 use Rattle.std.proofs.lemmas.Bool.{and_parts, and_from}
-use Rattle.tl_types.specs.Block.{FileOutcome}
-use Rattle.tl_types.specs.Same.{actor_same, file_same, file_same-Decides, worker_same-Decides}
+use Rattle.tl_types.specs.Same.{actor_same, file_same, file_same-Decides}
 use Rattle.tl_types.specs.declared.actor.Actor.{Actor}
 use Rattle.tl_types.specs.declared.file_id.FileId.{FileId}
 use Rattle.tl_types.specs.declared.worker_id.WorkerId.{WorkerId}
@@ -12,12 +11,12 @@ use Rattle.tl_model.specs.declared.header.Header.{Header}
 use Rattle.tl_model.specs.Past.{Past, event_with, events_with, without_tickets}
 use Rattle.tl_model.specs.Actors.{open_claim, open_read, open_save}
 use Rattle.tl_model.specs.Eviction.{Sizes, first_to_drop, victim}
-use Rattle.tl_model.specs.Residency.{is_at, is_resident_on, place}
-use Rattle.tl_model.specs.Rules.{Nothing, ToDrop, all_permitted, can_drop, is_due, is_lawful, is_quiet, last_actor_is, lawful_judge, legal_judge, owed, pays, size_of}
+use Rattle.tl_model.specs.Residency.{is_at, is_resident_on}
+use Rattle.tl_model.specs.Rules.{ToDrop, all_permitted, can_drop, is_due, is_lawful, is_quiet, last_actor_is, lawful_judge, legal_judge, owed, pays, size_of}
 use Rattle.tl_laws.proofs.Permits.{actor-known, holds-one, permits}
-use Rattle.tl_laws_drops.specs.Drops.{is_among, with_drops}
+use Rattle.tl_laws_drops.specs.Drops.{is_among}
 use Rattle.tl_laws_drops.proofs.Owing.{drop-owed, victim-due, victim-found, victim-goes}
-use Rattle.tl_fleet.specs.Order.{StandsInOrder, due, due_on, victim_on}
+use Rattle.tl_fleet.specs.Order.{StandsInOrder, due, due_on}
 use Rattle.tl_fleet.specs.Workers.{IsOnce, Workers, changed_at, dropped, found, held_count, incarnation_of, with_blocks, worker_found}
 use Rattle.tl_fleet.proofs.Events.{drop_stands}
 use Rattle.tl_fleet.specs.Workers as fleet
@@ -27,7 +26,7 @@ use Rattle.tl_fleet.proofs.Incarnations.{changed_same}
 use Rattle.tl_fleet.proofs.Places.{found_place}
 use Rattle.tl_fleet.proofs.Single.{stands_once}
 use Rattle.tl_store.specs.Contents.{without}
-use Rattle.tl_cluster.specs.Room.{under_way, under_way_of}
+use Rattle.tl_cluster.specs.Room.{under_way}
 use Rattle.tl_cluster.specs.Stands.{Agrees, PartsState, Stands}
 use Rattle.tl_cluster.specs.State.{block_found, held}
 use Rattle.tl_cluster.specs.Turned.{IsDrop, Settled, with_drop}
@@ -145,8 +144,10 @@ if-or false b o = refl
 -- one drop more
 pub settled-more : {T : Type 0} (tells : Bool) (content : T → List ℕ) (old parts : PartsState T) (actor : Actor) (drop : WorkerId × FileId) →
     Agrees tells content parts → can_drop (without_tickets parts.events) drop.0 drop.1 ≡ true →
+    held_count (with_drop actor drop parts).workers + 1 ≡ held_count parts.workers →
     Settled actor old parts → Settled actor old (with_drop actor drop parts)
-settled-more tells content old parts actor drop a can s =
+settled-more tells content old parts actor drop a can fewer s =
+    let before : old.spare + held_count parts.workers ≤ parts.spare + held_count old.workers = s.room in
     let once : IsOnce parts.workers = agrees-once tells content parts a in record {
       drops = drop ∷ s.drops;
       header = s.header;
@@ -156,10 +157,11 @@ settled-more tells content old parts actor drop a can s =
           drop-held f drop parts.workers (file_same f drop.1) once (found-there tells content parts drop a can) refl
           ∙ ap (λ o. if file_same f drop.1 then None else o) (s.held f)
           ∙ if-or (file_same f drop.1) (is_among f s.drops) (held f old.workers);
+      room = omega arith;
     }
 
 pub settled-none : {T : Type 0} (actor : Actor) (parts : PartsState T) → Settled actor parts parts
-settled-none actor parts = record { drops = []; header = refl; events = refl; vault = refl; held = λ f. refl }
+settled-none actor parts = record { drops = []; header = refl; events = refl; vault = refl; held = λ f. refl; room = omega arith }
 
 no-victim : (worker : WorkerId) (v : Option FileId) → is_some v ≡ true → option_map {U = WorkerId × FileId} (λ f. (worker, f)) v ≡ None → ⊥
 no-victim worker None some is = cc

@@ -14,11 +14,10 @@ use Rattle.tl_steps.proofs.Within.{all-within}
 use Rattle.tl_model.specs.Past.{Past, act_with, event_with, events_with, without_tickets}
 use Rattle.tl_model.specs.Eviction.{first_to_drop}
 use Rattle.tl_model.specs.Residency.{is_resident, place}
-use Rattle.tl_model.specs.Rules.{Nothing, all_permitted, holds, is_actor, is_lawful, is_legal, is_permitted, is_quiet, lawful_judge, legal_judge, owed, owes_nothing, pays, size_of}
+use Rattle.tl_model.specs.Rules.{Nothing, all_permitted, is_lawful, is_legal, is_permitted, is_quiet, lawful_judge, legal_judge, owed, owes_nothing, size_of}
 use Rattle.tl_laws.proofs.Permits.{actor-known, holds-one, permits, quiet-pays}
 use Rattle.tl_laws_drops.proofs.Owing.{none-owed}
-use Rattle.tl_fleet.specs.Workers.{Workers, found, worker_found}
-use Rattle.tl_fleet.proofs.Found.{found_file}
+use Rattle.tl_fleet.specs.Workers.{found, worker_found}
 use Rattle.tl_fleet.proofs.Places.{found_place}
 use Rattle.tl_cluster.specs.Stands.{Agrees, PartsState, Stands}
 use Rattle.tl_cluster.specs.State.{block_found, held}

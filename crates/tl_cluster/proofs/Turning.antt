@@ -1,29 +1,25 @@
 -- A main event and the drops after it are a turn.
-use Rattle.std.proofs.Common.{◌≡◌, ℕ, ◌<◌, Bool, true, false, if◌then◌else◌, List, ◌∷◌, Option, Some, None, is_some, option_map, refl, sym, ap, ◌∙◌, subst}
+use Rattle.std.proofs.Common.{◌≡◌, ℕ, Bool, true, false, if◌then◌else◌, List, ◌∷◌, Option, Some, None, option_map, refl, sym, ap, ◌∙◌, subst}
 use Rattle.tl_types.specs.Block.{FileOutcome}
-use Rattle.tl_types.specs.Outcome.{digest_of, outcome_size}
+use Rattle.tl_types.specs.Outcome.{digest_of}
 use Rattle.tl_types.specs.declared.actor.Actor.{Actor}
 use Rattle.tl_types.specs.declared.digest.Digest.{Digest}
 use Rattle.tl_types.specs.declared.file_id.FileId.{FileId}
-use Rattle.tl_types.specs.declared.worker_id.WorkerId.{WorkerId}
 use Rattle.tl_model.specs.declared.event.Act.TheVariants.{Served}
-use Rattle.tl_model.specs.declared.event.Event.{Event}
-use Rattle.tl_model.specs.Past.{events_with, without_tickets}
-use Rattle.tl_model.specs.Residency.{SavedAs, is_available, is_resident, saved_as}
+use Rattle.tl_model.specs.Past.{events_with}
+use Rattle.tl_model.specs.Residency.{is_resident}
 use Rattle.tl_model.specs.Values.{value}
 use Rattle.tl_laws_drops.specs.Drops.{is_among}
-use Rattle.tl_fleet.specs.Workers.{Workers, all_touched, found}
+use Rattle.tl_fleet.specs.Workers.{Workers, all_touched}
 use Rattle.tl_fleet.proofs.Found.{found_file, one_touched}
 use Rattle.tl_cluster.specs.declared.look.Look.{Look}
 use Rattle.tl_cluster.specs.declared.look.Look.TheVariants as looked
-use Rattle.tl_cluster.specs.Kept.{IsKept, IsSavedFor}
-use Rattle.tl_cluster.specs.Looks.{InStore, Looked, serving}
+use Rattle.tl_cluster.specs.Looks.{InStore, Looked}
 use Rattle.tl_cluster.specs.Main.{with_served}
-use Rattle.tl_cluster.specs.Stands.{Agrees, PartsState, Stands}
-use Rattle.tl_cluster.specs.State.{State, block_found, held, past_of, told_of}
+use Rattle.tl_cluster.specs.Stands.{Agrees, PartsState}
+use Rattle.tl_cluster.specs.State.{State, block_found, held, past_of}
 use Rattle.tl_cluster.specs.Turned.{Settled, Turned, as_held}
 use Rattle.tl_cluster.proofs.Reading.{found-held}
-use Rattle.tl_cluster.proofs.Steps.{held-resident}
 
 -- what contracts see of the parts
 abbrev pub state_of : {T : Type 0} → PartsState T → State T

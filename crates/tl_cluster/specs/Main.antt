@@ -5,9 +5,10 @@ use Rattle.tl_types.specs.Outcome.{digest_of}
 use Rattle.tl_types.specs.declared.actor.Actor.{Actor}
 use Rattle.tl_types.specs.declared.digest.Digest.{Digest}
 use Rattle.tl_types.specs.declared.file_id.FileId.{FileId}
+use Rattle.tl_types.specs.declared.record_id.RecordId.{RecordId}
 use Rattle.tl_types.specs.declared.worker_id.WorkerId.{WorkerId}
 use Rattle.tl_model.specs.declared.event.Act.{Act}
-use Rattle.tl_model.specs.declared.event.Act.TheVariants.{Load, Lose, Save, Saved, Served, Shut, Unsave}
+use Rattle.tl_model.specs.declared.event.Act.TheVariants.{Collect, Load, Lose, Save, Saved, Served, Shut, Unsave}
 use Rattle.tl_fleet.specs.Workers.{all_touched, installed, lost}
 use Rattle.tl_vault.specs.Vault.{Places}
 use Rattle.tl_cluster.specs.Saves.{saved_block}
@@ -66,3 +67,7 @@ with_saved actor block vault parts =
     record (with_event actor (Saved block.file known.size known.digest) parts) {
       vault = vault;
     }
+
+-- a record was let go
+abbrev pub with_let_go : {T : Type 0} → Actor → RecordId → PartsState T → PartsState T
+with_let_go actor made parts = with_event actor (Collect made) parts

@@ -1,5 +1,5 @@
 -- How a file is saved.
-use Rattle.std.specs.Prelude.{◌≡◌, ℕ, List, ◌∷◌, length, Option, Some, None}
+use Rattle.std.specs.Prelude.{◌≡◌, List, ◌∷◌, length, Option, Some, None}
 use Rattle.tl_types.specs.Outcome.{digest_of, outcome_size}
 use Rattle.tl_types.specs.Block.{FileOutcome}
 use Rattle.tl_types.specs.declared.actor.Actor.{Actor}

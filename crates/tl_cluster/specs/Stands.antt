@@ -12,7 +12,7 @@ use Rattle.tl_model.specs.declared.event.Event.{Event}
 use Rattle.tl_model.specs.declared.header.Header.{Header}
 use Rattle.tl_model.specs.declared.record.Record.{Record}
 use Rattle.tl_model.specs.declared.record.Record.TheVariants as kind
-use Rattle.tl_model.specs.Past.{Past, Told, events_with, without_tickets}
+use Rattle.tl_model.specs.Past.{Past, events_with, without_tickets}
 use Rattle.tl_model.specs.History.{records, record_at, is_job}
 use Rattle.tl_model.specs.Actors.{OpenClaim, OpenRead, open_claim, open_read, open_save}
 use Rattle.tl_model.specs.Values.{value}

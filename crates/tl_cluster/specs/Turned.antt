@@ -1,5 +1,5 @@
 -- A turn: a main event with what follows it, and the drops that settle the workers' memories.
-use Rattle.std.specs.Prelude.{◌≡◌, ◌+◌, ◌-◌, ℕ, Bool, true, not, List, ◌∷◌, Option, Some, None, if◌then◌else◌}
+use Rattle.std.specs.Prelude.{◌≡◌, ◌≤◌, ◌+◌, ◌-◌, ℕ, Bool, true, not, List, ◌∷◌, Option, Some, None, if◌then◌else◌}
 use Rattle.tl_types.specs.Block.{FileOutcome}
 use Rattle.tl_types.specs.declared.actor.Actor.{Actor}
 use Rattle.tl_types.specs.declared.file_id.FileId.{FileId}
@@ -28,7 +28,8 @@ pub record Turned {T : Type 0} (actor : Actor) (old : State T) (main : List (Eve
 abbrev pub as_held : {T : Type 0} → State T → FileId → Option FileOutcome
 as_held state f = held f state.workers
 
--- drops of the actor settled the parts: a dropped file is held no more, and all else is as before
+-- Drops of the actor settled the parts: a dropped file is held no more, and all else is as before.
+-- They took no more room than was kept for dropping what was held.
 pub record Settled {T : Type 0} (actor : Actor) (old new : PartsState T) : Type 0 where
   pub drops : List (WorkerId × FileId)
   pub header : new.header ≡ old.header
@@ -36,6 +37,7 @@ pub record Settled {T : Type 0} (actor : Actor) (old new : PartsState T) : Type 
   pub vault : new.vault ≡ old.vault
   pub held : (f : FileId) →
       held f new.workers ≡ (if is_among f drops then None else held f old.workers)
+  pub room : old.spare + held_count new.workers ≤ new.spare + held_count old.workers
 
 -- pinned or wanted
 abbrev pub is_protected : {T : Type 0} → List (Event T) → FileId → Bool

@@ -5,9 +5,11 @@ ghost use Rattle.tl_types.specs.Outcome.{digest_of, outcome_size};
 ghost use Rattle.tl_types.specs.declared.file_id.FileId.{FileId};
 ghost use Rattle.tl_types.specs.declared.worker_id.WorkerId.{WorkerId};
 ghost use Rattle.tl_fleet.specs.Workers.{incarnation_of, new_workers};
+ghost use Rattle.tl_model.specs.History.{calls_of};
 ghost use Rattle.tl_model.specs.Residency.{SavedAs, is_resident, saved_as};
 ghost use Rattle.tl_model.specs.Rules.{is_lawful, is_legal};
 ghost use Rattle.tl_model.specs.Values.{value};
+ghost use Rattle.tl_names.specs.Answers.{IsNamesOf};
 ghost use Rattle.tl_cluster.specs.Losses.{incarnation};
 ghost use Rattle.tl_cluster.specs.State.{held, past_of, told_of};
 
@@ -18,6 +20,7 @@ use tl_fleet::Fleet;
 use tl_io::Ticket;
 use tl_ledger::Ledger;
 use tl_model::{Header, Journal};
+use tl_names::Names;
 use tl_types::NoMemory;
 use tl_vault::Vault;
 
@@ -97,9 +100,17 @@ impl<T: Ticket> Cluster<T> {
     {
         self.parts.ledger.journal()
     }
+
+    /// The names of the history, in tables: what each path names, and which files are pinned.
+    pub fn names(&self) -> &Names
+        ensures { IsNamesOf result.now (calls_of self.now.events) }
+    {
+        self.parts.ledger.names()
+    }
 }
 
 mod calling;
+mod collecting;
 mod losing;
 mod reading;
 mod saves;

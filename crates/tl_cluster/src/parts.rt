@@ -44,6 +44,7 @@ impl<T: Ticket> Parts<T> {
 }
 
 mod calling;
+mod collecting;
 mod losing;
 mod reading;
 mod room;

@@ -13,7 +13,7 @@ use Rattle.tl_model.specs.declared.header.Header.{Header}
 use Rattle.tl_model.specs.declared.record.Record.{Record}
 use Rattle.tl_model.specs.declared.reply.Reply.{Reply}
 use Rattle.tl_model.specs.declared.reply.Reply.TheVariants.{Made, Fine, Opened, Listed, Stated, Exists, NoSuch, NotFile, NotDir, NotEmpty, TooDeep, IntoItself, TooMany}
-use Rattle.tl_model.specs.History.{HistoryOf, calls_of, names, names_of, record_at, record_made, records, records_of, with_call}
+use Rattle.tl_model.specs.History.{HistoryOf, calls_of, names, names_of, record_at, record_made, records_of, with_call}
 use Rattle.tl_model.specs.Journal.{calls_in}
 use Rattle.tl_model.specs.Past.{Past, act_with, command_with, without_tickets}
 use Rattle.tl_model.specs.Replies.{reply_to}

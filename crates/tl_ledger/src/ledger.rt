@@ -10,7 +10,7 @@ ghost use Rattle.tl_model.specs.Past.{without_tickets};
 ghost use Rattle.tl_model.specs.Plan.{is_ready, is_task, is_wanted, next};
 ghost use Rattle.tl_model.specs.Residency.{is_available, is_kept, place};
 ghost use Rattle.tl_model.specs.Rules.{all_permitted, lawful_judge};
-ghost use Rattle.tl_names.specs.Answers.{HasFewOutputs};
+ghost use Rattle.tl_names.specs.Answers.{HasFewOutputs, IsNamesOf};
 
 use crate::copying::copy_reply;
 use crate::files::{deleted_file, gone_after, is_pinned};
@@ -111,6 +111,13 @@ impl<T: Ticket> Ledger<T> {
         ensures { result.0 ≡ length (records (without_tickets self.now.events)) }
     {
         self.next
+    }
+
+    /// The names of this history, in tables.
+    pub fn names(&self) -> &Names
+        ensures { IsNamesOf result.now (calls_of self.now.events) }
+    {
+        &self.names
     }
 
     /// The file that a path names after this history.

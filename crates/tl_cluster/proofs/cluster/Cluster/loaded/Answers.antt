@@ -1,7 +1,6 @@
-use Rattle.std.proofs.Common.{◌≡◌, ◌<◌, Some, None, is_some, false, ap, ◌∙◌, sym, subst}
+use Rattle.std.proofs.Common.{◌≡◌, ◌<◌, is_some, ap, ◌∙◌, sym, subst}
 use Rattle.tl_types.specs.Block.{FileOutcome}
 use Rattle.tl_types.specs.Outcome.{digest_of}
-use Rattle.tl_types.specs.declared.file_id.FileId.{FileId}
 use Rattle.tl_model.specs.Actors.{open_read}
 use Rattle.tl_model.specs.Past.{without_tickets}
 use Rattle.tl_model.specs.Residency.{is_resident}

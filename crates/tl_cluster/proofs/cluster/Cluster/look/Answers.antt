@@ -1,4 +1,4 @@
-use Rattle.std.proofs.Common.{◌≡◌, Some, None, is_some, ap, ◌∙◌, sym, subst}
+use Rattle.std.proofs.Common.{◌≡◌, Some, is_some, ap, ◌∙◌, sym, subst}
 use Rattle.tl_types.specs.Block.{FileOutcome}
 use Rattle.tl_types.specs.Outcome.{digest_of}
 use Rattle.tl_types.specs.declared.file_id.FileId.{FileId}

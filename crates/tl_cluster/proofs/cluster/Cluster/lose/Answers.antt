@@ -1,7 +1,5 @@
-use Rattle.std.proofs.Common.{◌≡◌, ◌∷◌, List, refl, sym, ap, ◌∙◌, subst}
-use Rattle.tl_types.specs.declared.worker_id.WorkerId.{WorkerId}
+use Rattle.std.proofs.Common.{◌∷◌, refl, ap, ◌∙◌, subst}
 use Rattle.tl_model.specs.declared.event.Act.TheVariants.{Lose}
-use Rattle.tl_fleet.specs.Workers.{lost}
 use Rattle.tl_cluster.specs.Losses.{without_worker}
 use Rattle.tl_cluster.specs.Main.{with_lost}
 use Rattle.tl_cluster.specs.Stands.{PartsState}

@@ -1,5 +1,5 @@
-use Rattle.std.proofs.Common.{◌≡◌, [], sym, subst}
-use Rattle.tl_cluster.specs.Stands.{PartsState, Stands}
+use Rattle.std.proofs.Common.{sym, subst}
+use Rattle.tl_cluster.specs.Stands.{Stands}
 use Rattle.tl_cluster.proofs.Beginning.{begins}
 use Rattle.tl_cluster.proofs.cluster.Cluster.new.Goals as goal
 

@@ -1,15 +1,12 @@
-use Rattle.std.proofs.Common.{◌≡◌, true, Some, None, is_some, length, sym, ap, ◌∙◌, subst}
+use Rattle.std.proofs.Common.{Some, is_some, sym, ap, ◌∙◌, subst}
 use Rattle.tl_types.specs.Block.{FileOutcome}
-use Rattle.tl_types.specs.declared.file_id.FileId.{FileId}
 use Rattle.tl_model.specs.Checkpoints.{next_save}
 use Rattle.tl_model.specs.Past.{without_tickets}
-use Rattle.tl_model.specs.Rules.{all_permitted, lawful_judge}
 use Rattle.tl_cluster.specs.Saves.{Begun}
 use Rattle.tl_cluster.specs.Stands.{PartsState}
-use Rattle.tl_cluster.specs.State.{State, held}
+use Rattle.tl_cluster.specs.State.{State}
 use Rattle.tl_cluster.specs.Turned.{Settled}
 use Rattle.tl_cluster.proofs.Begun.{begun-turn, next-held}
-use Rattle.tl_cluster.proofs.Steps.{lawful-permitted}
 use Rattle.tl_cluster.proofs.Turning.{state_of}
 use Rattle.tl_cluster.proofs.cluster.Cluster.save_begin.Goals as goal
 

@@ -1,4 +1,4 @@
-use Rattle.std.proofs.Common.{◌≡◌, Some, is_some, ap, ◌∙◌, sym}
+use Rattle.std.proofs.Common.{is_some, ap, ◌∙◌, sym}
 use Rattle.tl_model.specs.Actors.{open_read}
 use Rattle.tl_model.specs.Past.{without_tickets}
 use Rattle.tl_cluster.specs.State.{State, past_of}

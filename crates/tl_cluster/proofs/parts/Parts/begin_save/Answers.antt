@@ -1,4 +1,4 @@
-use Rattle.std.proofs.Common.{◌≡◌, sym, ap, ◌∙◌, subst}
+use Rattle.std.proofs.Common.{sym, ap, ◌∙◌, subst}
 use Rattle.tl_cluster.specs.Main.{with_begun}
 use Rattle.tl_cluster.specs.Stands.{Agrees}
 use Rattle.tl_cluster.proofs.Checkpointing.{begun}

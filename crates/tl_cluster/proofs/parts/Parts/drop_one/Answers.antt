@@ -1,4 +1,4 @@
-use Rattle.std.proofs.Common.{◌≡◌, ◌+◌, ◌<◌, true, false, Some, None, refl, sym, ap, ◌∙◌, subst}
+use Rattle.std.proofs.Common.{◌≡◌, true, Some, sym, ◌∙◌, subst}
 use Rattle.tl_types.specs.declared.file_id.FileId.{FileId}
 use Rattle.tl_types.specs.declared.worker_id.WorkerId.{WorkerId}
 use Rattle.tl_model.specs.Past.{without_tickets}
@@ -6,7 +6,7 @@ use Rattle.tl_model.specs.Rules.{last_actor_is}
 use Rattle.tl_fleet.specs.Workers.{dropped, held_count}
 use Rattle.tl_fleet.proofs.Held.{settled_held}
 use Rattle.tl_cluster.specs.Stands.{Agrees, PartsState, Stands}
-use Rattle.tl_cluster.specs.Turned.{IsDrop, is_protected, with_drop}
+use Rattle.tl_cluster.specs.Turned.{IsDrop, is_protected}
 use Rattle.tl_cluster.proofs.Settling.{agrees-once, is-drop, no-drop, room_to_drop}
 use Rattle.tl_cluster.proofs.parts.Parts.drop_one.Goals as goal
 

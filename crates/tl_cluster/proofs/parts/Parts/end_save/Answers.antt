@@ -1,11 +1,9 @@
-use Rattle.std.proofs.Common.{◌≡◌, ◌<◌, ℕ, Some, None, true, if◌then◌else◌, ◌∷◌, List, sym, ap, ◌∙◌, subst}
+use Rattle.std.proofs.Common.{◌≡◌, ◌<◌, Some, if◌then◌else◌, ◌∷◌, sym, ap, ◌∙◌, subst}
 use Rattle.tl_types.specs.Block.{FileOutcome}
 use Rattle.tl_types.specs.Outcome.{digest_of, outcome_size}
 use Rattle.tl_types.specs.Same.{file_same}
-use Rattle.tl_types.specs.declared.digest.Digest.{Digest}
 use Rattle.tl_types.specs.declared.file_id.FileId.{FileId}
 use Rattle.tl_model.specs.declared.event.Act.TheVariants.{Saved}
-use Rattle.tl_model.specs.declared.event.Event.{Event}
 use Rattle.tl_model.specs.Past.{without_tickets}
 use Rattle.tl_fleet.specs.Workers.{held_count}
 use Rattle.tl_vault.specs.Vault.{has_place, saved_of}

@@ -1,4 +1,4 @@
-use Rattle.std.proofs.Common.{◌≡◌, ◌<◌, ap, ◌∙◌, subst, sym}
+use Rattle.std.proofs.Common.{◌<◌, ap, ◌∙◌, subst, sym}
 use Rattle.tl_types.specs.declared.record_id.RecordId.{RecordId}
 use Rattle.tl_model.specs.Past.{without_tickets}
 use Rattle.tl_fleet.specs.Workers.{held_count}

@@ -1,4 +1,4 @@
-use Rattle.std.proofs.Common.{◌≡◌, ◌<◌, sym, ap, ◌∙◌, subst}
+use Rattle.std.proofs.Common.{◌<◌, sym, ap, ◌∙◌, subst}
 use Rattle.tl_model.specs.Past.{without_tickets}
 use Rattle.tl_fleet.specs.Workers.{held_count}
 use Rattle.tl_cluster.specs.Main.{with_unsaved}

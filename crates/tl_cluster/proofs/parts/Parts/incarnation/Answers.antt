@@ -1,4 +1,4 @@
-use Rattle.std.proofs.Common.{◌≡◌, ◌<◌, Some, length, slice_get, option_map, ap, ◌∙◌, subst, sym}
+use Rattle.std.proofs.Common.{◌≡◌, ◌<◌, Some, length, slice_get, option_map, subst, sym}
 use Rattle.tl_fleet.specs.Workers.{incarnation_of}
 use Rattle.tl_cluster.specs.Stands.{PartsState}
 use Rattle.tl_cluster.proofs.parts.Parts.incarnation.Goals as goal

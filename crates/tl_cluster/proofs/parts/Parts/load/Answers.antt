@@ -1,9 +1,8 @@
-use Rattle.std.proofs.Common.{◌≡◌, ℕ, ◌-◌, ◌∷◌, List, false, true, sym, ap, ◌∙◌, subst}
+use Rattle.std.proofs.Common.{◌≡◌, ℕ, ◌-◌, ◌∷◌, false, sym, ap, ◌∙◌, subst}
 use Rattle.tl_types.specs.Block.{FileOutcome}
 use Rattle.tl_types.specs.Outcome.{digest_of}
 use Rattle.tl_types.specs.declared.file_id.FileId.{FileId}
 use Rattle.tl_model.specs.declared.event.Act.TheVariants.{Load, Served}
-use Rattle.tl_model.specs.declared.event.Event.{Event}
 use Rattle.tl_fleet.specs.Workers.{Workers, all_touched, installed}
 use Rattle.tl_fleet.specs.Workers as fleet
 use Rattle.tl_cluster.specs.Main.{with_loaded, with_served}

@@ -1,4 +1,4 @@
-use Rattle.std.proofs.Common.{◌≡◌, Option, Some, None, ap, ◌∙◌, subst, sym}
+use Rattle.std.proofs.Common.{◌≡◌, Option, ap, ◌∙◌, subst, sym}
 use Rattle.std.specs.Option.{option_copied}
 use Rattle.tl_model.specs.declared.saved.Saved.{Saved}
 use Rattle.tl_model.specs.Past.{events_with, without_tickets}
@@ -6,8 +6,7 @@ use Rattle.tl_model.specs.Residency.{saved_as}
 use Rattle.tl_model.specs.Values.{value}
 use Rattle.tl_vault.specs.Vault.{saved_of}
 use Rattle.tl_cluster.specs.Kept.{IsKept}
-use Rattle.tl_cluster.specs.Looks.{ShowsKept}
-use Rattle.tl_cluster.specs.Stands.{Agrees, PartsState}
+use Rattle.tl_cluster.specs.Stands.{PartsState}
 use Rattle.tl_cluster.proofs.Carry.{if_ok}
 use Rattle.tl_cluster.proofs.Looking.{in-store}
 use Rattle.tl_cluster.proofs.parts.Parts.look_in_store.Goals as goal

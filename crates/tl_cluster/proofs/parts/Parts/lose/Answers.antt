@@ -1,8 +1,8 @@
-use Rattle.std.proofs.Common.{◌≡◌, ◌+◌, ◌<◌, ◌≤◌, ◌^◌, ◌-◌, ℕ, List, ◌∷◌, length, slice_get, refl, sym, ap, ◌∙◌, subst}
+use Rattle.std.proofs.Common.{◌<◌, ◌^◌, ℕ, List, ◌∷◌, length, slice_get, refl, sym, ap, ◌∙◌, subst}
 use Rattle.tl_model.specs.declared.event.Act.TheVariants.{Lose}
 use Rattle.tl_model.specs.declared.event.Event.{Event}
 use Rattle.tl_cluster.specs.Main.{with_lost}
-use Rattle.tl_cluster.specs.Stands.{Agrees, PartsState, Stands}
+use Rattle.tl_cluster.specs.Stands.{Agrees}
 use Rattle.tl_cluster.proofs.Losing.{lost-agrees, may-be-lost}
 use Rattle.tl_cluster.proofs.parts.Parts.lose.Goals as goal
 

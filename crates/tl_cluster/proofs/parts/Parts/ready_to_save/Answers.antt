@@ -1,4 +1,4 @@
-use Rattle.std.proofs.Common.{◌≡◌, sym, ap, ◌∙◌, subst}
+use Rattle.std.proofs.Common.{sym, ap, ◌∙◌, subst}
 use Rattle.tl_cluster.specs.Stands.{PartsState, Stands}
 use Rattle.tl_cluster.proofs.Rooms.{places-stay, roomier-stands, with-places}
 use Rattle.tl_cluster.proofs.parts.Parts.ready_to_save.Goals as goal

@@ -1,5 +1,4 @@
-use Rattle.std.proofs.Common.{◌≡◌, ◌<◌, ap, ◌∙◌, subst, sym}
-use Rattle.tl_types.specs.declared.file_id.FileId.{FileId}
+use Rattle.std.proofs.Common.{◌<◌, ap, ◌∙◌, subst, sym}
 use Rattle.tl_model.specs.Past.{without_tickets}
 use Rattle.tl_fleet.specs.Workers.{held_count}
 use Rattle.tl_cluster.specs.Main.{with_served}

@@ -1,5 +1,4 @@
-use Rattle.std.proofs.Common.{◌≡◌, refl, sym, subst}
-use Rattle.tl_model.specs.History.{records}
+use Rattle.std.proofs.Common.{refl, sym}
 use Rattle.tl_model.specs.Past.{without_tickets}
 use Rattle.tl_cluster.proofs.Steps.{permitted-numbered}
 use Rattle.tl_cluster.proofs.parts.settling.drop_due.Goals as goal
