@@ -1,4 +1,14 @@
 pub mod Adding
 pub mod Longer
 pub mod Glimpses
+pub mod Others
+pub mod Placing
 pub mod Begun
+pub mod Losing
+pub mod Owners
+pub mod Reasons
+pub mod Pieced
+pub mod Lengthen
+pub mod LongerLines
+pub mod Dropping
+pub mod Examples

@@ -1,4 +1,11 @@
+pub mod Setting
 pub mod Own
 pub mod Moments
 pub mod Published
 pub mod Runs
+pub mod Calls
+pub mod Reading
+pub mod Counts
+pub mod Faults
+pub mod Lines
+pub mod Worked
