@@ -1,2 +1,10 @@
-pub mod DeedTable
+pub mod EventParts
+pub mod Fewer
+pub mod Fronts
+pub mod Names
+pub mod Progress
+pub mod Sayings
 pub mod Standing
+pub mod Stopping
+pub mod Tables
+pub mod Whole

@@ -1,5 +1,6 @@
 -- A number that stands before a space or at the end, and a header's words.
-use Rattle.std.proofs.Common.{◌≡◌, ℕ, Bool, true, ◌==◌, ◌<◌, ◌^◌, List, [], ◌∷◌, ◌++◌, codes, decimal, false, length, ◌*◌, refl, sym, ◌∙◌, ap, arith, append_assoc, append-nil}
+use Rattle.std.proofs.Common.{◌≡◌, ℕ, suc, Bool, true, ◌==◌, ◌<◌, ◌^◌, List, [], ◌∷◌, ◌++◌, codes, decimal, false, length, ◌*◌, refl, sym, ◌∙◌, ap, arith, append_assoc, append-nil}
+use Rattle.std.proofs.lemmas.Bool.{eqb-true, false_from_ne_true}
 use Rattle.std.proofs.lemmas.List.{append_cancel_left}
 use Rattle.hex.specs.Hex.{encode_lower, lower_digits}
 use Rattle.hex.proofs.HexLemmas.{length-encode_with}
@@ -34,9 +35,16 @@ no_space_left rest more e f = let no : [] ≡ 0x20 ∷ more = sym e ∙ f in cc
 pub some_left : (rest : List ℕ) → false ≡ (length rest == 0) → rest ≡ [] → ⊥
 some_left rest h e = let no : ◌≡◌ {A = Bool} false true = h ∙ ap (λ (r : List ℕ). length r == 0) e in cc
 
+none_is_long : (n : ℕ) → (suc n == 0) ≡ false
+none_is_long n = false_from_ne_true (suc n == 0) (λ e. omega (arith, eqb-true (suc n) 0 e))
+
+pub none_left : (rest : List ℕ) → true ≡ (length rest == 0) → rest ≡ []
+none_left [] h = refl
+none_left (b ∷ rest) h = let no : ◌≡◌ {A = Bool} true false = h ∙ none_is_long (length rest) in cc
+
 -- ---- files
 
-no_digit_at_dot : (rest : List ℕ) → BeginsWithNoDigit (0x2E ∷ rest)
+pub no_digit_at_dot : (rest : List ℕ) → BeginsWithNoDigit (0x2E ∷ rest)
 no_digit_at_dot rest = λ d. omega (arith, d.0, d.1)
 
 pub number_before_dot : (n : ℕ) (text rest : List ℕ) → n < 2 ^ 32 → text ≡ decimal n ++ 0x2E ∷ rest → IsNumber 18446744073709551615 text n (0x2E ∷ rest)

@@ -26,8 +26,8 @@ deed_text deed.Saved = codes "saved"
 deed_text deed.Unsave = codes "unsave"
 deed_text deed.Collect = codes "collect"
 
--- the deed beside these bytes
-abbrev pub found_in : List (List ℕ × Deed) → List ℕ → Option Deed
+-- what stands beside these bytes
+abbrev pub found_in : {T : Type 0} → List (List ℕ × T) → List ℕ → Option T
 found_in table word = lookup (λ spelled. bytes_eq spelled word) table
 
 abbrev pub deed_of : Act (List ℕ) → Deed

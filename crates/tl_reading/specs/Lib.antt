@@ -1,1 +1,4 @@
 pub mod Acts
+pub mod Journals
+pub mod Replies
+pub mod Stops

@@ -1,7 +1,9 @@
 //! The words of the acts.
 
-ghost use Rattle.std.specs.Prelude.{◌≡◌, ◌≢◌, map, IfSome, IfNone};
-ghost use Rattle.tl_reading.specs.Acts.{deed_text, found_in};
+ghost use Rattle.std.specs.Prelude.{◌≡◌, ◌≢◌, IfSome, IfNone};
+ghost use Rattle.tl_reading.specs.Acts.{deed_text};
+
+use crate::table::find;
 
 /// The word that says what is done in an event.
 #[derive(Clone, Copy, Debug, PartialEq, Eq)]
@@ -39,23 +41,10 @@ const DEEDS: [(&[u8], Deed); 14] = [
     (b"collect", Deed::Collect),
 ];
 
-// The deed that the table has for these bytes.
-fn find_deed(mut table: &[(&[u8], Deed)], word: &[u8]) -> Option<Deed>
-    ensures { result ≡ found_in (map (λ entry. (entry.0.now, entry.1)) table.entry.now) word.now }
-{
-    while let [entry, rest @ ..] = table {
-        if entry.0 == word {
-            return Some(entry.1);
-        }
-        table = rest;
-    }
-    None
-}
-
 /// The deed that these bytes spell.
 pub fn deed_of(word: &[u8]) -> Option<Deed>
     ensures found { IfSome result (λ deed. word.now ≡ deed_text deed) }
     ensures none { IfNone result ((deed : Deed) → word.now ≢ deed_text deed) }
 {
-    find_deed(&DEEDS, word)
+    find(&DEEDS, word)
 }

@@ -1,7 +1,10 @@
-use Rattle.std.proofs.Common.{◌∷◌}
-use Rattle.tl_script.proofs.Headers.{no_error}
-use Rattle.tl_reading.proofs.Standing.{number_before_dot}
+use Rattle.std.proofs.Common.{◌∷◌, sym, ◌∙◌, arith}
+use Rattle.tl_spelling.proofs.Cuts.{cut_number}
+use Rattle.tl_reading.proofs.Standing.{no_digit_at_dot}
 use Rattle.tl_reading.proofs.token.dotted.Goals as goal
 
-pub returns-in_default-clause-none : goal.returns-in_default-clause-none
-returns-in_default-clause-none c = λ n rest lt e. no_error _ _ (c.in_default.ensures.only n (0x2E ∷ rest) (number_before_dot n c.args.text.now rest lt e))
+pub returns-then-number-ge-RECORDS-clause-none : goal.returns-then-number-ge-RECORDS-clause-none
+returns-then-number-ge-RECORDS-clause-none c = λ n rest small e.
+    let cut = cut_number c.in_ok-number.number n (0x2E ∷ c.in_ok-number.rest.now) (0x2E ∷ rest) (omega (arith, c.in_ok-number.ensures.within)) (omega (arith, small)) (no_digit_at_dot c.in_ok-number.rest.now) (no_digit_at_dot rest)
+    (sym c.in_ok-number.ensures.found ∙ e) in
+    omega (arith, cut.0, small, c.if-number-ge-RECORDS.true)
