@@ -1,0 +1,11 @@
+pub mod Resting
+pub mod Calling
+pub mod Losing
+pub mod Looking
+pub mod Serving
+pub mod Shutting
+pub mod OpenedReads
+pub mod Staying
+pub mod Collecting
+pub mod SavingUp
+pub mod Working
