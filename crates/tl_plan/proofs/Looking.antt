@@ -1,27 +1,28 @@
 -- What is looked up in what is kept is as the past says.
-use Rattle.std.proofs.Common.{◌≡◌, ◌∙◌, arith, ℕ, zero, suc, ◌+◌, ◌<◌, ◌≤◌, ◌⊎◌, inl, inr, Bool, true, false, ◌&&◌, ◌||◌, not, if◌then◌else◌, List, [], ◌∷◌, filter, map, slice_get, Option, Some, None, is_some, refl, sym, ap, subst}
+use Rattle.std.proofs.Common.{◌≡◌, ◌∙◌, arith, ℕ, zero, suc, ◌+◌, ◌<◌, ◌≤◌, ◌⊎◌, inl, inr, Bool, true, false, ◌&&◌, ◌||◌, not, if◌then◌else◌, List, [], ◌∷◌, filter, length, map, slice_get, Option, Some, None, is_some, refl, sym, ap, subst}
 use Rattle.std.specs.List.{AllByRecursion, list_any, list_all}
 use Rattle.std.proofs.lemmas.Bool.{lt-ltb, ltb-true}
 use Rattle.std.proofs.lemmas.Bool.Decides.{Decides-eqb}
+use Rattle.tl_types.specs.declared.actor.Actor.{Actor}
 use Rattle.tl_types.specs.declared.file_id.FileId.{FileId}
 use Rattle.tl_types.specs.declared.record_id.RecordId.{RecordId}
 use Rattle.tl_model.specs.declared.record.Record.{Record}
 use Rattle.tl_model.specs.Past.{Past}
 use Rattle.tl_model.specs.Tables.{Table, answer_at, downward}
 use Rattle.tl_model.specs.History.{files_from, has_input, has_output, id_of, inputs_of, output_count, records}
-use Rattle.tl_model.specs.Actors.{is_read, is_running}
+use Rattle.tl_model.specs.Actors.{actors, is_read, is_running, open_read}
 use Rattle.tl_model.specs.Residency.{is_available, is_resident, is_saved, place}
 use Rattle.tl_model.specs.Plan.{can_run, has_id, is_awaited, is_ready, is_task, is_wanted, task_among, tasks}
 use Rattle.tl_laws.proofs.Numbering.{below_or_not}
 use Rattle.tl_laws.specs.Made.{HasMadeInputs, IsOutputOf}
 use Rattle.tl_laws.proofs.Order.{among-holds}
-use Rattle.tl_steps.specs.Steps.{is_read_at, is_running_at}
+use Rattle.tl_steps.specs.Steps.{is_read_at, is_running_at, seat_of}
 use Rattle.tl_steps.specs.Within.{IsWithin}
 use Rattle.tl_steps.proofs.Lists.{get_map, get_map_none}
 use Rattle.tl_steps.proofs.Files.{not-true}
 use Rattle.tl_steps.proofs.Seats.{read-same, running-same}
 use Rattle.tl_plan.specs.declared.output.Output.{Output}
-use Rattle.tl_plan.specs.Data.{PlanData, awaited_at, file_at, here_at, place_at, ready_of, row_at, row_or_none, task_of}
+use Rattle.tl_plan.specs.Data.{PlanData, awaited_at, file_at, here_at, place_at, read_of, ready_of, row_at, row_or_none, task_of}
 use Rattle.tl_plan.specs.Standing.{StandsFor, files_with, job_in, output_with, outputs_with}
 use Rattle.tl_plan.proofs.Marks.{StartsAt, starts}
 
@@ -151,6 +152,39 @@ running-looked plan past made stands = ap (λ seats. is_running_at seats made) s
 
 pub wanted-looked : (plan : PlanData) (past : Past) (f : FileId) → StandsFor plan past → (is_read_at plan.seats f || awaited_at (file_at f plan.files)) ≡ is_wanted past f
 wanted-looked plan past f stands = λ i. read-looked plan past f stands i || awaited-looked plan past f stands i
+
+-- ---- what each actor reads
+
+-- these actors are numbered one after another, from this number on
+abbrev CountsFrom : ℕ → List Actor → Type 0
+CountsFrom n [] = Unit {0}
+CountsFrom n (a ∷ xs) = (a.0 ≡ n) × CountsFrom (suc n) xs
+
+counted : CountsFrom 0 actors
+counted = (refl, (refl, (refl, (refl, (refl, (refl, (refl, (refl, (refl, (refl, (refl, (refl, (refl, (refl, (refl, (refl, tt))))))))))))))))
+
+get-actor : (actor : Actor) (n : ℕ) (xs : List Actor) (k : ℕ) → CountsFrom n xs → actor.0 ≡ n + k → k < length xs → slice_get xs k ≡ Some actor
+get-actor actor n [] k from place less = absurd (omega arith)
+get-actor actor n (a ∷ xs) zero from place less =
+    let number : a.0 ≡ n = from.0 in
+    let same : a.0 ≡ actor.0 = omega arith in
+    ap (λ (m : ℕ). Some (record { 0 = m })) same
+get-actor actor n (a ∷ xs) (suc k) from place less = get-actor actor (suc n) xs k from.1 (omega arith) (omega arith)
+
+no-actor : (xs : List Actor) (k : ℕ) → length xs ≤ k → slice_get xs k ≡ None
+no-actor [] k more = refl
+no-actor (a ∷ xs) zero more = absurd (omega arith)
+no-actor (a ∷ xs) (suc k) more = no-actor xs k (omega arith)
+
+pub reading-looked : (plan : PlanData) (past : Past) (actor : Actor) → StandsFor plan past → actor.0 < 16 → read_of (slice_get plan.seats actor.0) ≡ open_read past actor
+reading-looked plan past actor stands known =
+    ap (λ seats. read_of (slice_get seats actor.0)) stands.seats
+    ∙ ap read_of (get_map (seat_of past) actors actor.0 actor (get-actor actor 0 actors actor.0 counted (omega arith) known))
+
+pub no-reading : (plan : PlanData) (past : Past) (actor : Actor) → StandsFor plan past → 16 ≤ actor.0 → read_of (slice_get plan.seats actor.0) ≡ None
+no-reading plan past actor stands unknown =
+    ap (λ seats. read_of (slice_get seats actor.0)) stands.seats
+    ∙ ap read_of (get_map_none (seat_of past) actors actor.0 (no-actor actors actor.0 unknown))
 
 -- ---- what can be run
 

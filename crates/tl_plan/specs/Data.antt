@@ -5,6 +5,7 @@ use Rattle.tl_types.specs.declared.file_id.FileId.{FileId}
 use Rattle.tl_types.specs.declared.worker_id.WorkerId.{WorkerId}
 use Rattle.tl_model.specs.declared.event.Act.{Act}
 use Rattle.tl_model.specs.Past.{Plain}
+use Rattle.tl_model.specs.Actors.{OpenRead}
 use Rattle.tl_model.specs.Residency.{does}
 use Rattle.tl_steps.specs.declared.seat.Seat.{Seat}
 use Rattle.tl_steps.specs.Steps.{changed_at, is_read_at, is_running_at, left_room, next_of, place_now, saves_now, seat_after}
@@ -131,6 +132,10 @@ plan_after e plan =
     record { jobs = tables.0; files = tables.1; seats = seats; next = left_room e.act plan.next }
 
 -- ---- what is looked up
+
+abbrev pub read_of : Option Seat → Option OpenRead
+read_of None = None
+read_of (Some seat) = seat.read
 
 abbrev pub task_of : Option Job → Bool
 task_of None = false

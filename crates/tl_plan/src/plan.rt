@@ -1,12 +1,13 @@
-ghost use Rattle.std.specs.Prelude.{◌≡◌, ◌<◌, ◌∷◌, ◌++◌, ◌||◌, [], slice_get, map, length, vec_len, vec_capacity, IfSome, OnOk, OnErr, List, None, true};
+ghost use Rattle.std.specs.Prelude.{◌≡◌, ◌<◌, ◌≤◌, ◌∷◌, ◌++◌, ◌||◌, [], slice_get, map, length, vec_len, vec_capacity, IfSome, OnOk, OnErr, List, None, true};
 ghost use Rattle.std.specs.List.{list_all};
 ghost use Rattle.std.specs.Option.{option_copied};
 ghost use Rattle.tl_model.specs.declared.event.Event.{Event as EventOf};
 ghost use Rattle.tl_model.specs.declared.header.Header.{Header as HeaderOf};
+ghost use Rattle.tl_model.specs.Actors.{open_read};
 ghost use Rattle.tl_model.specs.Past.{Past, act_with, event_with, without_tickets};
 ghost use Rattle.tl_model.specs.Rules.{all_permitted, lawful_judge};
 ghost use Rattle.tl_model.specs.Residency.{is_available, place};
-ghost use Rattle.tl_plan.specs.Data.{awaited_at, file_at, is_here_in, job_after, outputs_after, place_at, plan_after, ready_of, tables_from, task_of, with_files, with_job};
+ghost use Rattle.tl_plan.specs.Data.{awaited_at, file_at, is_here_in, job_after, outputs_after, place_at, plan_after, read_of, ready_of, tables_from, task_of, with_files, with_job};
 ghost use Rattle.tl_plan.specs.Standing.{HasRoom, HasRoomForAll, StandsFor};
 ghost use Rattle.tl_steps.specs.Steps.{added, is_read_at, left_room};
 
@@ -18,8 +19,8 @@ use crate::tables::make_tables;
 use std::alloc::Global;
 use std::marker::Model;
 use tl_model::{Act, Event, Facts, Header, Record};
-use tl_steps::{SEATS, Seat, accepts, is_read, is_running, new_seats, note_seats};
-use tl_types::{FileId, NoMemory, RecordId, WorkerId};
+use tl_steps::{OpenRead, SEATS, Seat, accepts, is_read, is_running, new_seats, note_seats};
+use tl_types::{Actor, FileId, NoMemory, RecordId, WorkerId};
 
 /// Which of the accepted records are tasks, which of these can be run, and which files are wanted.
 /// Contracts see what is kept of records, files and actors, and the record for which there is a place;
@@ -100,6 +101,16 @@ impl Plan {
         self.is_here(file)
     }
 
+    /// The read that the actor has open, if it has one (`known`). Actors are numbered from 0 to 15;
+    /// of any other the answer is `None` (`unknown`).
+    pub fn reading(&self, actor: Actor) -> Option<OpenRead>
+        ensures known { (past : Past) → StandsFor self.now past → actor.0 < 16 →
+            result ≡ open_read past actor }
+        ensures unknown { (past : Past) → StandsFor self.now past → 16 ≤ actor.0 → result ≡ None }
+    {
+        self.found_read(actor)
+    }
+
     // What is kept after an event.
     fn note_event<T>(&mut self, event: &Event<T>)
         ensures { self.new ≡ plan_after (event_with (λ _. tt) event.now) self.old }
@@ -125,6 +136,13 @@ impl Plan {
         ensures { result ≡ is_here_in self.now.files file }
     {
         is_here_in(&self.files, file)
+    }
+
+    // The read that is kept at the actor's seat.
+    fn found_read(&self, actor: Actor) -> Option<OpenRead>
+        ensures { result ≡ read_of (slice_get self.now.seats actor.0) }
+    {
+        read_of(seat_at(&self.seats, actor))
     }
 
     // Whether it is kept that the record is a task.
@@ -281,6 +299,23 @@ fn is_here_in(files: &[Outputs], file: FileId) -> bool
     match find(files, file) {
         Some(output) => is_here(output),
         None => false,
+    }
+}
+
+// The actor's seat, if it has one.
+fn seat_at(seats: &[Seat], actor: Actor) -> Option<&Seat>
+    ensures { option_copied result ≡ slice_get seats.now actor.0 }
+{
+    seats.get(actor.0 as usize)
+}
+
+// The read that is open at the seat.
+fn read_of(found: Option<&Seat>) -> Option<OpenRead>
+    ensures { result ≡ read_of (option_copied found.entry) }
+{
+    match found {
+        Some(seat) => seat.read,
+        None => None,
     }
 }
 
