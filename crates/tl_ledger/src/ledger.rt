@@ -2,6 +2,7 @@ ghost use Rattle.std.specs.Prelude.{◌≡◌, ◌-◌, ◌<◌, ◌≤◌, ◌�
 ghost use Rattle.std.specs.Prelude.{true, length, reverse, if◌then◌else◌};
 ghost use Rattle.std.specs.Option.{option_copied};
 ghost use Rattle.tl_ledger.specs.Naming.{file_named};
+ghost use Rattle.tl_model.specs.Actors.{open_read};
 ghost use Rattle.tl_model.specs.Checkpoints.{next_save};
 ghost use Rattle.tl_model.specs.History.{calls_of, is_pinned, names_of, record_at, records, reply_after};
 ghost use Rattle.tl_model.specs.Journal.{call_count, calls_in};
@@ -22,6 +23,7 @@ use tl_edge::{a_delete_unnames_its_file, only_deletes_unname};
 use tl_io::Ticket;
 use tl_model::{Act, Command, Event, Header, Journal, Record, Reply};
 use tl_names::Names;
+use tl_steps::OpenRead;
 use tl_types::{Actor, FileId, NoMemory, Path, RecordId, WorkerId};
 
 /// The journal, and what is kept in step with it: the names of its history in tables, its records,
@@ -201,6 +203,14 @@ impl<T: Ticket> Ledger<T> {
             result ≡ place (without_tickets self.now.events) file }
     {
         self.parts.place(file)
+    }
+
+    /// The read that the actor has open, if it has one, where all the events are permitted.
+    pub fn reading(&self, actor: Actor) -> Option<OpenRead>
+        ensures { all_permitted lawful_judge self.now.header self.now.events ≡ true →
+            result ≡ open_read (without_tickets self.now.events) actor }
+    {
+        self.parts.reading(actor)
     }
 
     /// The record of a number, while it is kept, where all the events are permitted.

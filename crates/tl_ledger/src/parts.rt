@@ -1,12 +1,13 @@
 //! What is kept beside the journal: which records are tasks and what is wanted, which record is
 //! next, the records, which file is saved next, and which record may be let go.
 
-ghost use Rattle.std.specs.Prelude.{◌≡◌, ◌+◌, ◌<◌, ◌^◌, ◌∷◌, ◌++◌, [], List, Some, OnOk};
+ghost use Rattle.std.specs.Prelude.{◌≡◌, ◌+◌, ◌<◌, ◌≤◌, ◌^◌, ◌∷◌, ◌++◌, [], List, None, Some, OnOk};
 ghost use Rattle.std.specs.Prelude.{true, false, length, map};
 ghost use Rattle.std.specs.Option.{option_copied};
 ghost use Rattle.tl_model.specs.declared.event.Event.{Event as EventOf};
 ghost use Rattle.tl_model.specs.declared.header.Header.{Header as HeaderOf};
 ghost use Rattle.tl_model.specs.declared.record.Record.{Record as RecordOf};
+ghost use Rattle.tl_model.specs.Actors.{open_read};
 ghost use Rattle.tl_model.specs.Checkpoints.{next_save};
 ghost use Rattle.tl_model.specs.History.{id_of};
 ghost use Rattle.tl_model.specs.Needs.{garbage};
@@ -30,8 +31,8 @@ use tl_lineage::Graph;
 use tl_model::{Act, Event, Facts, Header, Record};
 use tl_plan::Plan;
 use tl_prio::Order;
-use tl_steps::accepts;
-use tl_types::{FileId, NoMemory, RecordId, WorkerId};
+use tl_steps::{OpenRead, accepts};
+use tl_types::{Actor, FileId, NoMemory, RecordId, WorkerId};
 
 /// The parts that are kept in step with a journal. Contracts see what each keeps.
 #[derive(Drop)]
@@ -193,6 +194,16 @@ impl Parts {
             result ≡ place past file }
     {
         self.plan.place(file)
+    }
+
+    /// The read that the actor has open, if it has one. Actors of numbers from 16 on have none.
+    pub(crate) fn reading(&self, actor: Actor) -> Option<OpenRead>
+        ensures known { (header : HeaderOf) (past : Past) → StandFor header self.now past →
+            actor.0 < 16 → result ≡ open_read past actor }
+        ensures unknown { (header : HeaderOf) (past : Past) → StandFor header self.now past →
+            16 ≤ actor.0 → result ≡ None }
+    {
+        self.plan.reading(actor)
     }
 
     /// The record of a number, while it is kept.
