@@ -3,9 +3,10 @@
 ghost use Rattle.std.specs.Prelude.{◌≡◌, ◌<◌, ◌∷◌, Some, true, false, IfOk, IsSome, OnErr, OnOk};
 ghost use Rattle.tl_types.specs.Block.{FileOutcome};
 ghost use Rattle.tl_types.specs.Outcome.{digest_of};
-ghost use Rattle.tl_model.specs.Actors.{OpenRead, open_read};
+ghost use Rattle.tl_model.specs.Actors.{OpenRead as Opened, open_read};
 ghost use Rattle.tl_model.specs.Past.{events_with, without_tickets};
 ghost use Rattle.tl_model.specs.Residency.{is_resident, saved_as};
+ghost use Rattle.tl_model.specs.Rules.{is_lawful};
 ghost use Rattle.tl_model.specs.Values.{value};
 ghost use Rattle.tl_cluster.specs.Looks.{InStore};
 ghost use Rattle.tl_cluster.specs.Stands.{Agrees, IsReading, IsRoomierOnly, Stands};
@@ -18,21 +19,30 @@ use crate::look::Look;
 use crate::parts::Parts;
 use tl_io::Ticket;
 use tl_model::{Act, Event};
+use tl_steps::OpenRead;
 use tl_types::{Actor, Block, Digest, FileId, NoMemory, Shared, WorkerId};
-use tl_walk::open_read;
 
 impl<T: Ticket> Parts<T> {
     /// The file of the read that the actor has open.
     pub(crate) fn file_read(&self, actor: Actor) -> FileId
-        requires { IsSome (open_read (without_tickets self.now.events) actor) }
-        ensures { (read : OpenRead) → open_read (without_tickets self.now.events) actor
+        requires lawful { is_lawful self.now.header self.now.events ≡ true }
+        requires reading { IsSome (open_read (without_tickets self.now.events) actor) }
+        ensures { (read : Opened) → open_read (without_tickets self.now.events) actor
             ≡ Some read →
             result ≡ read.file }
     {
-        match open_read(self.ledger.events(), actor) {
+        match self.reading(actor) {
             Some(read) => read.file(),
             None => unreachable!(),
         }
+    }
+
+    // The read that the actor has open, if it has one.
+    fn reading(&self, actor: Actor) -> Option<OpenRead>
+        requires { is_lawful self.now.header self.now.events ≡ true }
+        ensures { result ≡ open_read (without_tickets self.now.events) actor }
+    {
+        self.ledger.reading(actor)
     }
 
     /// The block of a file that is in some memory.
