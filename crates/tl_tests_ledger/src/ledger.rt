@@ -206,9 +206,9 @@ fn what_is_due_keeps_step_with_the_journal(rt: HostRuntime) -> Result<(), Fail> 
     Ok(())
 }
 
-// Whether the first record is a task and can be run, and whether its file is wanted, available, in
-// the one worker's memory and pinned.
-fn facts(ledger: &Ledger<FalseTicket>) -> [bool; 6] {
+// Whether the first record is a task and can be run, whether its file is wanted, available, in the
+// one worker's memory and pinned, and whether the first actor has a read open.
+fn facts(ledger: &Ledger<FalseTicket>) -> [bool; 7] {
     [
         ledger.is_task(RecordId(0)),
         ledger.is_ready(RecordId(0)),
@@ -216,11 +216,12 @@ fn facts(ledger: &Ledger<FalseTicket>) -> [bool; 6] {
         ledger.is_available(file(0)),
         ledger.place(file(0)).is_some(),
         ledger.is_pinned(file(0)),
+        ledger.reading(Actor(0)).is_some(),
     ]
 }
 
 // The facts once a job is submitted, has run, and its file is read and pinned.
-fn all_facts(rt: &HostRuntime, ledger: &mut Ledger<FalseTicket>) -> Result<[[bool; 6]; 3], Fail> {
+fn all_facts(rt: &HostRuntime, ledger: &mut Ledger<FalseTicket>) -> Result<[[bool; 7]; 3], Fail> {
     ledger.reserve(5)?;
     call(rt, ledger, 0, job(rt, "a")?)?;
     let submitted = facts(ledger);
@@ -242,9 +243,9 @@ fn facts_keep_step_with_the_journal(rt: HostRuntime) -> Result<(), Fail> {
     let mut ledger = Ledger::new(rt.alloc(), HEADER)?;
     let facts = all_facts(&rt, &mut ledger)?;
     let wanted = [
-        [true, true, false, false, false, false],
-        [false, false, false, true, true, false],
-        [false, false, true, true, true, true],
+        [true, true, false, false, false, false, false],
+        [false, false, false, true, true, false, false],
+        [false, false, true, true, true, true, true],
     ];
     assert_eq!(rt; facts, wanted);
     Ok(())
