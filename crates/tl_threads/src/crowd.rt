@@ -28,7 +28,7 @@ fn tell_end<P: Part>(ended: &AtomicBool, _clients: Snapshot<Vec<P>>, _outs: &Vec
 }
 
 // Plays the clients to their ends, and then tells the crew.
-fn play_clients<'s, E, R: Threads, C: Part<Out: Send + Drop + 's> + Send + Drop + 's>(
+fn play_clients<'s, E, R: Threads, C: Part<Out: 's> + 's>(
     rt: &R,
     scope: &'s Scope<'s, E>,
     ended: &AtomicBool,
@@ -47,13 +47,7 @@ fn play_clients<'s, E, R: Threads, C: Part<Out: Send + Drop + 's> + Send + Drop 
 
 // Starts the crew, plays the clients meanwhile, and takes in what the crew gives once it is told.
 // Those of the crew whose thread the system refuses are played here, after the end was told.
-fn play_around<
-    's,
-    E,
-    R: Threads,
-    C: Part<Out: Send + Drop + 's> + Send + Drop + 's,
-    W: Part<Out: Send + Drop + 's> + Send + Drop + 's,
->(
+fn play_around<'s, E, R: Threads, C: Part<Out: 's> + 's, W: Part<Out: 's> + 's>(
     rt: &R,
     scope: &'s Scope<'s, E>,
     ended: &AtomicBool,
@@ -87,12 +81,14 @@ fn play_around<
     });
 }
 
-/// Plays the clients and the crew at once, each part on a thread of its own.
-pub fn play_crowd<
-    R: Threads + Wait + Sync,
-    C: Part<Out: Send + Drop> + Send + Drop,
-    W: Part<Out: Send + Drop> + Send + Drop,
->(
+/// Plays the clients and the crew at once, each part on a thread of its own, and gives what each
+/// gave, one for each part, in their orders. Once all clients have ended `ended` is set, which tells
+/// the crew to end too. Where the system refuses a thread its part is played here: a client's once
+/// all other parts were started, and one of the crew once the clients have ended.
+///
+/// `AllocError` where memory for what is given ran out; then no part was played, and `ended` is as
+/// it was.
+pub fn play_crowd<R: Threads + Wait + Sync, C: Part, W: Part>(
     rt: &R,
     alloc: Global,
     clients: Vec<C>,

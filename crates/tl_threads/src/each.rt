@@ -10,7 +10,7 @@ use std::thread::{Scope, Threads};
 /// Plays each of the parts on a thread of its own, and puts what they give behind one another in
 /// the order of the parts. Those whose thread the system refuses are played here, once all others
 /// were started.
-pub(crate) fn play_each<'s, E, R: Threads, P: Part<Out: Send + Drop + 's> + Send + Drop + 's>(
+pub(crate) fn play_each<'s, E, R: Threads, P: Part<Out: 's> + 's>(
     rt: &R,
     scope: &'s Scope<'s, E>,
     mut parts: Vec<P>,

@@ -1,6 +1,6 @@
 //! Clients and crews on threads of their own.
 
-ghost use Rattle.std.specs.Prelude.{◌≡◌};
+ghost use Rattle.std.specs.Prelude.{◌≡◌, ⊤};
 
 use crate::{Part, play_crowd};
 use std::alloc::AllocError;
@@ -40,7 +40,7 @@ struct Watching<'a, R> {
     many_ended: &'a AtomicU64,
 }
 
-impl<'a, R: Wait> Part for Watching<'a, R> {
+impl<'a, R: Wait + Sync> Part for Watching<'a, R> {
     type Out = u64;
 
     ghost ready = { λ _. ⊤ };
@@ -69,11 +69,18 @@ fn the_crew_ends_after_the_clients(rt: HostRuntime) -> Result<(), AllocError> {
     }
     let mut crew = Vec::new(rt.alloc());
     for _ in 0..3 {
-        crew.push(Watching { rt: &rt, ended: &ended, many_ended: &many_ended })?;
+        crew.push(Watching {
+            rt: &rt,
+            ended: &ended,
+            many_ended: &many_ended,
+        })?;
     }
     let crowd = play_crowd(&rt, rt.alloc(), clients, crew, &ended)?;
-    assert_eq!(rt; crowd.clients.as_slice(), [0, 1, 2, 3, 4, 5, 6, 7]);
-    assert_eq!(rt; crowd.crew.as_slice(), [8, 8, 8]);
+    assert_eq!(rt;
+        crowd.clients.as_slice(),
+        [0, 1, 2, 3, 4, 5, 6, 7].as_slice()
+    );
+    assert_eq!(rt; crowd.crew.as_slice(), [8, 8, 8].as_slice());
     Ok(())
 }
 
